@@ -1,0 +1,2 @@
+pub mod Formed
+mod Joining

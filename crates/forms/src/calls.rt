@@ -1,0 +1,65 @@
+// What a table does.
+ghost use mathlib.Core.Path.{_≡_};
+ghost use mathlib.Core.List.{[]};
+ghost use Prim.Native.Nat.{_<_};
+ghost use lib.ListN.{length};
+ghost use Rattle.std.specs.Vec.{made};
+ghost use Rattle.forms.specs.Forms.{Earlier, Lawful};
+ghost use Rattle.forms.specs.Tables.{formsOf, accepted, numberGiven, tableAfter};
+use crate::form::Form;
+use crate::refusal::Refusal;
+use crate::table::Count;
+use crate::table::Table;
+
+impl Table {
+    // A table with no form.
+    pub fn new() -> Table
+        ensures { λ r. ⌜ formsOf r ≡ [] ⌝ }
+    {
+        Table {
+            forms: [Form::Truth; 64],
+            count: Count { len: 0 },
+        }
+    }
+
+    // The forms, in the order in which they came.
+    pub fn as_slice(&self) -> &[Form]
+        ensures items { λ r. ⌜ now r ≡ formsOf (now (self .entry)) ⌝ }
+        ensures lawful { λ r. ⌜ Lawful (now r) ⌝ }
+        ensures counted { λ r. ⌜ length (now r) ≡ now (self .entry) .count .len ⌝ }
+    {
+        &self.forms[0..self.count.len]
+    }
+
+    // Adds the form of a kind at the end, and answers its number.
+    pub fn add(&mut self, kind: u8, a: u8, b: u8) -> Result<usize, Refusal>
+        ensures number { λ r. ⌜ r ≡ numberGiven (formsOf (now (self .entry))) kind a b ⌝ }
+        ensures after { λ _. ⌜ formsOf (now (self .exit)) ≡ tableAfter (formsOf (now (self .entry))) kind a b ⌝ }
+    {
+        let at = self.as_slice().len();
+        let form = acceptable(at, kind, a, b)?;
+        self.forms[at] = form;
+        self.count.len = at + 1;
+        Ok(at)
+    }
+}
+
+// The form of a kind, if a table of n forms takes it.
+fn acceptable(n: usize, kind: u8, a: u8, b: u8) -> Result<Form, Refusal>
+    ensures value { λ r. ⌜ r ≡ accepted n kind a b ⌝ }
+    ensures fits { λ r. ⌜ made r (λ form. (n < 64) × Earlier n form) ⌝ }
+{
+    let Some(form) = Form::of_kind(kind, a, b) else {
+        return Err(Refusal::KindAbove11);
+    };
+    if !form.atom_fits() {
+        return Err(Refusal::AtomAbove31);
+    }
+    if !form.operands_below(n) {
+        return Err(Refusal::OperandNotEarlier);
+    }
+    if n >= 64 {
+        return Err(Refusal::TableFull);
+    }
+    Ok(form)
+}
