@@ -1,2 +1,3 @@
 pub mod Formed
 mod Joining
+pub mod SetsWithin

@@ -79,3 +79,15 @@ WellFormed T = (f : ℕ) → Earlier f (form T f)
 -- a table of the register: well-formed, of at most 64 forms
 abbrev pub Lawful : Table → Type 0
 Lawful T = WellFormed T × (length T ≤ 64)
+
+-- a form other than `Truth`, which is what a place past the table reads as
+abbrev pub Solid : Form → Type 0
+Solid Truth = ⊥
+Solid Falsity = Unit {0}
+Solid (Atom p) = Unit {0}
+Solid (Absent p) = Unit {0}
+Solid (And i j) = Unit {0}
+Solid (Or i j) = Unit {0}
+Solid (Next q i) = Unit {0}
+Solid (Until q i j) = Unit {0}
+Solid (Release q i j) = Unit {0}

@@ -1,3 +1,5 @@
 pub mod Refusals
 pub mod Forms
+pub mod Sets
+pub mod Meaning
 pub mod Tables

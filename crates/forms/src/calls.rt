@@ -4,7 +4,8 @@ ghost use mathlib.Core.List.{[]};
 ghost use Prim.Native.Nat.{_<_};
 ghost use lib.ListN.{length};
 ghost use Rattle.std.specs.Vec.{made};
-ghost use Rattle.forms.specs.Forms.{Earlier, Lawful};
+ghost use Rattle.forms.specs.Forms.{form, Earlier, Lawful, Solid};
+ghost use Rattle.forms.specs.Sets.{within};
 ghost use Rattle.forms.specs.Tables.{formsOf, accepted, numberGiven, tableAfter};
 use crate::form::Form;
 use crate::refusal::Refusal;
@@ -29,6 +30,28 @@ impl Table {
         ensures counted { λ r. ⌜ length (now r) ≡ now (self .entry) .count .len ⌝ }
     {
         &self.forms[0..self.count.len]
+    }
+
+    // Form f, whose operands are then below 64. Past the end there is nothing to hold, so `Truth`.
+    pub fn form(&self, f: u8) -> Form
+        ensures value { λ r. ⌜ r ≡ form (formsOf (now (self .entry))) f ⌝ }
+        ensures small { λ r. ⌜ Earlier 64 r ⌝ }
+        ensures placed { λ r. ⌜ (Solid r → f < 64) ⌝ }
+    {
+        let forms = self.as_slice();
+        if (f as usize) < forms.len() {
+            forms[f as usize]
+        } else {
+            Form::Truth
+        }
+    }
+
+    // Whether each form of the set is in the table.
+    pub fn has_all(&self, set: u64) -> bool
+        ensures { λ r. ⌜ r ≡ within (formsOf (now (self .entry))) set ⌝ }
+    {
+        let count = self.as_slice().len();
+        count >= 64 || set >> count == 0
     }
 
     // Adds the form of a kind at the end, and answers its number.
