@@ -1,3 +1,4 @@
 pub mod Formed
 mod Joining
+pub mod Numbering
 pub mod SetsWithin

@@ -1,4 +1,5 @@
 -- The number of each refusal.
+use mathlib.Core.Path.{_≡_}
 use Prim.Native.Nat.{ℕ}
 use Rattle.forms.specs.declared.refusal.Refusal.{Refusal}
 use Rattle.forms.specs.declared.refusal.Refusal.the-variants.{KindAbove11, AtomAbove31, OperandNotEarlier, SetBeyondTable, StateBeyondMachine, NoSuchStep, NotInGoal, DoesNotFit, DoesNotClose, RowCount, RowDegree, RowOffset, BuffersTooShort, FileShape, PartKind, PartLengths, BodyLength, ProductSize, TimerShape, BadLine, TableFull, BookFull, NoWalk, WalkPresent, GoalsWait, WalkClosed, PathTooLong, SetStands, NoSuchLine, NoPartLeft, NoSheet}
@@ -35,3 +36,7 @@ numberOf SetStands = 28
 numberOf NoSuchLine = 29
 numberOf NoPartLeft = 30
 numberOf NoSheet = 31
+
+-- no two refusals have one number
+abbrev pub Numbers-differ : Type 0
+Numbers-differ = (e f : Refusal) → numberOf e ≡ numberOf f → e ≡ f

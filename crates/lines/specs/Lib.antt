@@ -1,0 +1,5 @@
+pub mod Decimals
+pub mod Fields
+pub mod Grammar
+pub mod Kept
+pub mod Replies
