@@ -1,4 +1,5 @@
 pub mod Formed
 mod Joining
 pub mod Numbering
+pub mod Reading
 pub mod SetsWithin

@@ -1,0 +1,8 @@
+pub mod Overlays
+pub mod Settles
+pub mod Bitwise
+pub mod Columns
+pub mod Successors
+pub mod Labels
+pub mod Marks
+pub mod Lists

@@ -1,0 +1,2 @@
+// Machines: finite transition systems behind one interface.
+pub mod interface;
