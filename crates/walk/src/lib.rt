@@ -1,0 +1,14 @@
+// The walk through a tree of goals: the step function, and the calls of a walk.
+mod advance;
+mod calls;
+mod focus;
+mod frames;
+mod outcome;
+mod path;
+pub mod phase;
+mod sets;
+mod steps;
+mod treat;
+pub mod walk;
+
+pub use walk::Walk;
