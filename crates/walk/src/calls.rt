@@ -4,8 +4,8 @@ ghost use Rattle.std.specs.Vec.{made};
 ghost use Rattle.forms.specs.Tables.{formsOf};
 ghost use Rattle.walk.specs.Progress.{absent, opened, stepped, abandoned, finished, reply, next};
 ghost use Rattle.walk.specs.View.{view};
+use crate::decode::step_of;
 use crate::frames::count_seconds;
-use crate::frames::step_of;
 use crate::phase::Phase;
 use crate::treat::treat;
 use crate::walk::Walk;
@@ -54,13 +54,17 @@ impl Walk {
         ensures reply { λ r. ⌜ r ≡ reply (stepped (formsOf (now (table .entry))) (view (now (self .entry))) number a b) ⌝ }
         ensures after { λ _. ⌜ view (now (self .exit)) ≡ next (view (now (self .entry))) (stepped (formsOf (now (table .entry))) (view (now (self .entry))) number a b) ⌝ }
     {
-        match self.phase {
-            Phase::Absent => Err(Refusal::NoWalk),
-            Phase::Closed { root: _ } => Err(Refusal::WalkClosed),
-            Phase::UnderWay { root, present } => {
-                let Some(step) = step_of(number, a, b) else {
-                    return Err(Refusal::NoSuchStep);
-                };
+        match (self.phase, step_of(number, a, b)) {
+            (Phase::Absent, _) => Err(Refusal::NoWalk),
+            (Phase::Closed { root: _ }, _) => Err(Refusal::WalkClosed),
+            (
+                Phase::UnderWay {
+                    root: _,
+                    present: _,
+                },
+                None,
+            ) => Err(Refusal::NoSuchStep),
+            (Phase::UnderWay { root, present }, Some(step)) => {
                 match treat(&mut self.path, table, present, step)? {
                     Some(goal) => {
                         self.phase = Phase::UnderWay {
@@ -77,6 +81,7 @@ impl Walk {
             }
         }
     }
+
     // Ends the walk, closed or not.
     pub fn abandon(&mut self) -> Result<usize, Refusal>
         ensures reply { λ r. ⌜ r ≡ reply (abandoned (view (now (self .entry)))) ⌝ }

@@ -5,29 +5,10 @@ ghost use Prim.Native.Nat.{_≤_};
 ghost use lib.ListN.{length};
 ghost use Rattle.std.specs.Vec.{listOf};
 ghost use Rattle.std.specs.Of.Vec.{vec-items, vec-len, vec-cap};
-ghost use Rattle.tableau.specs.Steps.{stepOf};
 ghost use Rattle.tableau.specs.Walk.{resume as resumed, seconds};
 ghost use Rattle.walk.specs.Progress.{walkAt};
 use tableau::Frame;
 use tableau::Goal;
-use tableau::Step;
-
-// The step of a number and two operands; 255 in step 7 names no form.
-pub(crate) fn step_of(number: u8, a: u8, b: u8) -> Option<Step>
-    ensures { λ r. ⌜ r ≡ stepOf number a b ⌝ }
-{
-    match number {
-        1 => Some(Step::Clash(a, b)),
-        2 => Some(Step::Absurdity(a)),
-        3 => Some(Step::Split(a)),
-        4 => Some(Step::Choose(a)),
-        5 => Some(Step::Unroll(a, b)),
-        6 => Some(Step::Refocus(a)),
-        7 => Some(Step::Advance(if a == 255 { None } else { Some(a) })),
-        8 => Some(Step::Repeat(a)),
-        _ => None,
-    }
-}
 
 // 1 where a second child waits, and 0 where none does.
 fn one_if_waiting(second: Option<Goal>) -> usize

@@ -1,13 +1,16 @@
 // The walk through a tree of goals: the step function, and the calls of a walk.
 mod advance;
 mod calls;
+mod decode;
 mod focus;
 mod frames;
 mod outcome;
-mod path;
 pub mod phase;
+mod repeat;
 mod sets;
 mod steps;
+#[cfg(test)]
+mod tests;
 mod treat;
 pub mod walk;
 

@@ -5,7 +5,7 @@ ghost use Rattle.tableau.specs.Rules.{outcome as rule};
 ghost use Rattle.walk.specs.Answers.{answer};
 ghost use Rattle.walk.specs.Path.{trailAbove};
 use crate::advance::advance;
-use crate::path::repeat;
+use crate::repeat::repeat;
 use crate::steps::Children;
 use crate::steps::absurdity;
 use crate::steps::choose;

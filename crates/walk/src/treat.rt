@@ -15,6 +15,9 @@ use tableau::Frame;
 use tableau::Goal;
 use tableau::Step;
 
+// The most goals above a child: with it, a path has 256.
+const MOST_ABOVE: usize = 256 - 1;
+
 // The goal that is next, or none where the walk is closed.
 pub(crate) fn treat(
     path: &mut Vec<Frame>,
@@ -30,7 +33,7 @@ pub(crate) fn treat(
     match take_step(table, path.as_slice(), present, step)? {
         None => Ok(resume(path)),
         Some((first, second)) => {
-            if path.len() >= 255 {
+            if path.len() >= MOST_ABOVE {
                 return Err(Refusal::PathTooLong);
             }
             path.push_reserved(Frame {

@@ -32,18 +32,18 @@ found c =
 size : (c : In-Some) → length (vec-items (c .args .path .now)) ≡ vec-len (c .args .path .now)
 size c = ap length (sym (c .as-slice .ensures .value)) ∙ c .as-slice .ensures .len
 
-pub returns-then-len-ge255 : need.returns-then-len-ge255
-returns-then-len-ge255 c =
-    let arm : In-Some = need.at·returns-then-len-ge255 c .In-Some in
+pub returns-then-len-ge-MOST-ABOVE : need.returns-then-len-ge-MOST-ABOVE
+returns-then-len-ge-MOST-ABOVE c =
+    let arm : In-Some = need.at·returns-then-len-ge-MOST-ABOVE c .In-Some in
     record {
       node = too-long (c .args .present) (c .args .step) (c .in-Some .first) (c .in-Some .second) (out arm) (vec-items (c .args .path .now)) (found arm) (omega (arith, size arm));
       kept = refl;
       room = (refl, c .pre .0);
     }
 
-pub returns-else-len-ge255 : need.returns-else-len-ge255
-returns-else-len-ge255 c =
-    let arm : In-Some = need.at·returns-else-len-ge255 c .In-Some in
+pub returns-else-len-ge-MOST-ABOVE : need.returns-else-len-ge-MOST-ABOVE
+returns-else-len-ge-MOST-ABOVE c =
+    let arm : In-Some = need.at·returns-else-len-ge-MOST-ABOVE c .In-Some in
     record {
       node = goes-down (c .args .present) (c .args .step) (c .in-Some .first) (c .in-Some .second) (out arm) (vec-items (c .args .path .now)) (found arm)
           (vec-items (c .push-reserved .last .self)) (omega (arith, size arm)) (c .push-reserved .ensures .items);

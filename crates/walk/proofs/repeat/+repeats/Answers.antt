@@ -7,7 +7,7 @@ use Rattle.tableau.specs.Ancestors.{repeats}
 use Rattle.walk.specs.Path.{trailAbove}
 use borrow.Author.Needs.{needs}
 use Rattle.walk.proofs.Above.{above-root, no-level, parent-level, higher-level}
-use Rattle.walk.proofs.path.+repeats.Needs as need
+use Rattle.walk.proofs.repeat.+repeats.Needs as need
 
 pub returns-in-empty : need.returns-in-empty
 returns-in-empty t c = above-root (c .args .path .now) (c .args .u) (c .args .set) (c .args .levels) (search needs)
