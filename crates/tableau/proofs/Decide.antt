@@ -1,4 +1,4 @@
--- On a finite machine it is decided whether some state meets a set within so many rounds of an until, so there is a least number of rounds.
+-- On a finite model it is decided whether some state meets a set within so many rounds of an until, so there is a least number of rounds.
 use mathlib.Core.Path.{_≡_, refl, sym, subst}
 use mathlib.Core.Bool.{Bool, true, false, Bool-discrete}
 use mathlib.Core.Logic.{_⊎_, inl, inr}
@@ -17,10 +17,10 @@ use Rattle.forms.specs.declared.form.Quantifier.the-variants.{Exists, Every}
 use Rattle.forms.specs.declared.form.Form.{Form}
 use Rattle.forms.specs.declared.form.Form.the-variants.{Truth, Falsity, Atom, Absent, And, Or, Next, Until, Release}
 use Rattle.forms.specs.Forms.{Table, WellFormed, form}
-use Rattle.forms.specs.Meaning.{formula, reading}
+use Rattle.forms.specs.Meaning.{formula, reading, SetHolds}
 use Rattle.tableau.proofs.Untils.{AtSuccessors, Reach}
 use Rattle.tableau.proofs.Reading.{formula-of}
-use Rattle.tableau.proofs.Live.{Has, Meets, Within, WithinForm, Beyond}
+use Rattle.tableau.proofs.Live.{Has, Within, WithinForm, Beyond}
 
 dec-× : {A B : Type 0} → Dec A → Dec B → Dec (A × B)
 dec-× (yes a) (yes b) = yes (a, b)
@@ -106,7 +106,7 @@ module _ (T : Table) (w : WellFormed T) (m : Model) (serial : Serial m) where
   unfolding Holds
   past f s h = subst (λ φ. Holds m φ s) (sym (formula-of T w f (getD-past T f Truth h))) tt
 
-  dec-meets : (set s : ℕ) → s < m .count → Dec (Meets T m set s)
+  dec-meets : (set s : ℕ) → s < m .count → Dec (SetHolds T m set s)
   dec-meets set s h =
       dec-map (λ d. (h, λ f. all d f (cases-lt f (length T)))) (λ p f l. p .1 f)
       (dec-all (length T) (λ f. member set f ≡ true → Has T m f s) (λ f l. dec-→ (Bool-discrete (member set f) true) (dec-has f s h)))
@@ -117,13 +117,13 @@ module _ (T : Table) (w : WellFormed T) (m : Model) (serial : Serial m) where
 
   -- some state that meets the set is in the k-th iterate of u
   Near : ℕ → ℕ → ℕ → Type 0
-  Near set u k = (s : ℕ) × (Meets T m set s × Within T m u k s)
+  Near set u k = (s : ℕ) × (SetHolds T m set s × Within T m u k s)
 
   dec-near : (set u k : ℕ) → Dec (Near set u k)
   unfolding Near
   dec-near set u k =
       dec-map (λ p. (p .0, p .1 .1)) (λ p. (p .0, (p .1 .0 .0, p .1)))
-      (dec-some (m .count) (λ s. Meets T m set s × Within T m u k s) (λ s h. dec-× (dec-meets set s h) (dec-within (form T u) k s h)))
+      (dec-some (m .count) (λ s. SetHolds T m set s × Within T m u k s) (λ s h. dec-× (dec-meets set s h) (dec-within (form T u) k s h)))
 
   none-yet : (x : Form) (s : ℕ) → WithinForm T m x zero s → ⊥
   none-yet (Until q i j) s e = e
@@ -137,15 +137,15 @@ module _ (T : Table) (w : WellFormed T) (m : Model) (serial : Serial m) where
   none-yet (Release q i j) s e = e
 
   -- a state that meets the set in the fewest rounds
-  pub least : (set u k s : ℕ) → Meets T m set s → Within T m u k s
-      → (j : ℕ) × ((suc j ≤ k) × (((t : ℕ) × (Meets T m set t × Within T m u (suc j) t)) × Beyond T m set u j))
+  pub least : (set u k s : ℕ) → SetHolds T m set s → Within T m u k s
+      → (j : ℕ) × ((suc j ≤ k) × (((t : ℕ) × (SetHolds T m set t × Within T m u (suc j) t)) × Beyond T m set u j))
   unfolding Near
   least set u zero s h near = absurd (none-yet (form T u) s near)
   least set u (suc k) s h near = go (dec-near set u k) (λ t p n. least set u k t p n)
     where
       Least : ℕ → Type 0
-      Least n = (j : ℕ) × ((suc j ≤ n) × (((t : ℕ) × (Meets T m set t × Within T m u (suc j) t)) × Beyond T m set u j))
+      Least n = (j : ℕ) × ((suc j ≤ n) × (((t : ℕ) × (SetHolds T m set t × Within T m u (suc j) t)) × Beyond T m set u j))
 
-      go : Dec (Near set u k) → ((t : ℕ) → Meets T m set t → Within T m u k t → Least k) → Least (suc k)
+      go : Dec (Near set u k) → ((t : ℕ) → SetHolds T m set t → Within T m u k t → Least k) → Least (suc k)
       go (yes p) ih = let r : Least k = ih (p .0) (p .1 .0) (p .1 .1) in let l : suc (r .0) ≤ k = r .1 .0 in (r .0, (omega arith, r .1 .1))
       go (no f) ih = (k, (le-refl (suc k), ((s, (h, near)), λ t p n. f (t, (p, n)))))

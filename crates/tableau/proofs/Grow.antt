@@ -33,6 +33,7 @@ use Rattle.tableau.specs.Statements.{InTable, Run-grows}
 use Rattle.tableau.proofs.SetLaws.{inserted, kept}
 use Rattle.tableau.proofs.Sound.{every-member}
 use Rattle.tableau.proofs.Exact.{Ruled, outcome-ruled, ruled-outcome}
+use Rattle.tableau.proofs.Walking.{Accepted}
 
 pub placed : (T : Table) (a : ℕ) {x : Form} → form T a ≡ x → Solid x → a < length T
 placed T a {x} e solid = go (cases-lt a (length T))
@@ -215,10 +216,6 @@ module _ (T : Table) where
   follow-inside g st frames (one d) c h = room-inside (roomBelow frames) _ (c, (tt, h))
   follow-inside g st frames (two d e) c h = room-inside (roomBelow frames) _ (c .0, (c .1, h))
   follow-inside g st frames (refused r) c h = tt
-
-abbrev Accepted : Node → Type 0
-Accepted (accepted walk) = Unit {0}
-Accepted (denied r) = ⊥
 
 module _ (T : Table) (w : WellFormed T) (more : Table) where
   -- an accepted step is accepted in the larger table too, with the same walk after it

@@ -6,11 +6,10 @@ use mathlib.Core.Logic.{_⊎_}
 use Prim.Native.Nat.{ℕ, _<_}
 use Rattle.ctl.specs.Model.{Model}
 use Rattle.ctl.specs.Meaning.{Holds}
-use Rattle.forms.specs.Sets.{member}
 use Rattle.forms.specs.declared.form.Form.{Form}
 use Rattle.forms.specs.declared.form.Form.the-variants.{Truth, Falsity, Atom, Absent, And, Or, Next, Until, Release}
 use Rattle.forms.specs.Forms.{Table, form}
-use Rattle.forms.specs.Meaning.{formula}
+use Rattle.forms.specs.Meaning.{formula, SetHolds}
 use Rattle.tableau.specs.declared.goals.Focus.{Focus}
 use Rattle.tableau.specs.declared.goals.Focus.the-variants.{Nowhere, At, Ahead}
 use Rattle.tableau.specs.declared.goals.Goal.{Goal}
@@ -23,10 +22,6 @@ module _ (T : Table) (m : Model) where
   -- form f holds at s
   abbrev pub Has : ℕ → ℕ → Type 0
   Has f s = Holds m (formula T f) s
-
-  -- each form of the set holds at the state s
-  abbrev pub Meets : ℕ → ℕ → Type 0
-  Meets set s = (s < m .count) × ((f : ℕ) → member set f ≡ true → Has f s)
 
   -- s is in the k-th iterate of the until form x
   abbrev pub WithinForm : Form → ℕ → ℕ → Type 0
@@ -57,7 +52,7 @@ module _ (T : Table) (m : Model) where
 
   -- no state that meets the set is in the k-th iterate of u
   abbrev pub Beyond : ℕ → ℕ → ℕ → Type 0
-  Beyond set u k = (t : ℕ) → Meets set t → Within u k t → ⊥
+  Beyond set u k = (t : ℕ) → SetHolds T m set t → Within u k t → ⊥
 
   -- this is so of each ancestor that unrolled u in focus, up to the last step 6
   abbrev pub Fresh : Trail → ℕ → ℕ → Type 0
@@ -70,7 +65,7 @@ module _ (T : Table) (m : Model) where
   FocusMet trail (Ahead x u) s = (k : ℕ) × (AheadForm (form T x) u k s × Fresh trail u k)
 
   abbrev pub Met : Trail → Goal → ℕ → Type 0
-  Met trail g s = Meets (g .set) s × FocusMet trail (g .focus) s
+  Met trail g s = SetHolds T m (g .set) s × FocusMet trail (g .focus) s
 
   -- the goal is met at some state
   abbrev pub Live : Trail → Goal → Type 0

@@ -24,15 +24,11 @@ use Rattle.tableau.specs.Walk.{Walk, underWay, closed, trailOf, start, resume,
 use Rattle.tableau.specs.Tree.{Tree, bare, leaf, stem, fork, root, Obeys, ClosesEveryBranch, steps}
 use Rattle.tableau.specs.Statements.{Closed-is-tree}
 use Rattle.tableau.proofs.Exact.{Ruled, outcome-ruled}
-use Rattle.tableau.proofs.Walking.{length-trail}
+use Rattle.tableau.proofs.Walking.{Accepted, length-trail}
 
 abbrev Open : Walk → Type 0
 Open (underWay g frames) = Unit {0}
 Open closed = ⊥
-
-abbrev Accepted : Node → Type 0
-Accepted (accepted walk) = Unit {0}
-Accepted (denied r) = ⊥
 
 abbrev walkOf : Node → Walk
 walkOf (accepted walk) = walk

@@ -1,4 +1,4 @@
--- Each step rule leads from a goal that is met at some state of a machine to one that is met at some state of the same machine.
+-- Each step rule leads from a goal that is met at some state of a model to one that is met at some state of the same model.
 use mathlib.Core.Path.{_≡_, refl, sym, ap, subst, _∙_}
 use mathlib.Core.Bool.{Bool, true, false, cond, _&&_, _||_, true≢false}
 use mathlib.Core.List.{List, [], _∷_}
@@ -19,7 +19,7 @@ use Rattle.forms.specs.declared.form.Quantifier.the-variants.{Exists, Every}
 use Rattle.forms.specs.declared.form.Form.{Form}
 use Rattle.forms.specs.declared.form.Form.the-variants.{Truth, Falsity, Atom, Absent, And, Or, Next, Until, Release}
 use Rattle.forms.specs.Forms.{Table, WellFormed, form}
-use Rattle.forms.specs.Meaning.{formula, reading}
+use Rattle.forms.specs.Meaning.{formula, reading, SetHolds}
 use Rattle.tableau.specs.declared.goals.Focus.{Focus}
 use Rattle.tableau.specs.declared.goals.Focus.the-variants.{Nowhere, At, Ahead}
 use Rattle.tableau.specs.declared.goals.Goal.{Goal}
@@ -35,7 +35,7 @@ use Rattle.tableau.specs.Allowed.{In, Repeats, here, higher, Rule, by-clash, b
 use Rattle.tableau.proofs.Untils.{AtSuccessors, Reach, some-until, every-until}
 use Rattle.tableau.proofs.SetLaws.{inserted, kept, member-contained, member-zero}
 use Rattle.tableau.proofs.Reading.{formula-of}
-use Rattle.tableau.proofs.Live.{Has, Meets, Within, WithinForm, AheadForm, Beyond, Fresh, FocusMet, Live, SomeLive}
+use Rattle.tableau.proofs.Live.{Has, Within, WithinForm, AheadForm, Beyond, Fresh, FocusMet, Live, SomeLive}
 use Rattle.tableau.proofs.Decide.{least}
 use Rattle.tableau.proofs.Releases.{some-release, every-release}
 
@@ -189,23 +189,23 @@ module _ (T : Table) (w : WellFormed T) (m : Model) (serial : Serial m) where
   within-has u k s (Next q i) e l r = absurd r
   within-has u k s (Release q i j) e l r = absurd r
 
-  meets-insert : (set i s : ℕ) → Meets T m set s → Has T m i s → Meets T m (insert set i) s
+  meets-insert : (set i s : ℕ) → SetHolds T m set s → Has T m i s → SetHolds T m (insert set i) s
   meets-insert set i s p h = (p .0, λ f b. go f (inserted set i f b))
     where
       go : (f : ℕ) → (member set f ≡ true) ⊎ (f ≡ i) → Has T m f s
       go f (inl b) = p .1 f b
       go f (inr e) = subst (λ n. Has T m n s) (sym e) h
 
-  meets-remove : (set a s : ℕ) → Meets T m set s → Meets T m (remove set a) s
+  meets-remove : (set a s : ℕ) → SetHolds T m set s → SetHolds T m (remove set a) s
   meets-remove set a s p = (p .0, λ f b. p .1 f (kept set a f b))
 
-  meets₁ : (set a i s : ℕ) → Meets T m set s → Has T m i s → Meets T m (insert (remove set a) i) s
+  meets₁ : (set a i s : ℕ) → SetHolds T m set s → Has T m i s → SetHolds T m (insert (remove set a) i) s
   meets₁ set a i s p h = meets-insert (remove set a) i s (meets-remove set a s p) h
 
-  meets₂ : (set a i j s : ℕ) → Meets T m set s → Has T m i s → Has T m j s → Meets T m (insert (insert (remove set a) i) j) s
+  meets₂ : (set a i j s : ℕ) → SetHolds T m set s → Has T m i s → Has T m j s → SetHolds T m (insert (insert (remove set a) i) j) s
   meets₂ set a i j s p h k = meets-insert (insert (remove set a) i) j s (meets₁ set a i s p h) k
 
-  meets-next : (set s t : ℕ) → Meets T m set s → m .leads s t ≡ true → Meets T m (everyOperands T 0 set) t
+  meets-next : (set s t : ℕ) → SetHolds T m set s → m .leads s t ≡ true → SetHolds T m (everyOperands T 0 set) t
   meets-next set s t p l = (serial .within s t l .1, λ f b. go f (every-member T 0 set f b))
     where
       go : (f : ℕ) → (y : ℕ) × ((member set (0 + y) ≡ true) × (form T y ≡ Next Every f)) → Has T m f t
@@ -304,7 +304,7 @@ module _ (T : Table) (w : WellFormed T) (m : Model) (serial : Serial m) where
         elsewhere e (inr h) = inr (s, (meets₂ (g .set) a i b s M (h .0) (h .1), second-passes a b s e F))
 
         -- at a state with the fewest rounds n + 1
-        nearest : focusedAt a (g .focus) ≡ true → (n t : ℕ) → Meets T m (g .set) t → Reach m q (Has T m i) (Has T m j) (suc n) t → Fresh T m (below (Unroll a b)) a n → First ⊎ Second
+        nearest : focusedAt a (g .focus) ≡ true → (n t : ℕ) → SetHolds T m (g .set) t → Reach m q (Has T m i) (Has T m j) (suc n) t → Fresh T m (below (Unroll a b)) a n → First ⊎ Second
         nearest e n t p (inl h) fresh =
             inl (t, (meets₁ (g .set) a j t p h, subst (λ c. FocusMet T m (below (Unroll a b)) (cond c Nowhere (g .focus)) t) (sym e) tt))
         nearest e n t p (inr h) fresh =
@@ -316,7 +316,7 @@ module _ (T : Table) (w : WellFormed T) (m : Model) (serial : Serial m) where
         go false e = let r : (k : ℕ) × Reach m q (Has T m i) (Has T m j) k s = read-until q a i j s ea (M .0) (M .1 a ia) in elsewhere e (round q a b i j (r .0) s ea eb (r .1))
         go true e =
             let r : (k : ℕ) × (Within T m a k s × Fresh T m trail a k) = in-focus a s e F in
-            let best : (n : ℕ) × ((suc n ≤ r .0) × (((t : ℕ) × (Meets T m (g .set) t × Within T m a (suc n) t)) × Beyond T m (g .set) a n)) = least T w m serial (g .set) a (r .0) s M (r .1 .0) in
+            let best : (n : ℕ) × ((suc n ≤ r .0) × (((t : ℕ) × (SetHolds T m (g .set) t × Within T m a (suc n) t)) × Beyond T m (g .set) a n)) = least T w m serial (g .set) a (r .0) s M (r .1 .0) in
             let l : suc (best .0) ≤ r .0 = best .1 .0 in
             let t : ℕ = best .1 .1 .0 .0 in
             nearest e (best .0) t (best .1 .1 .0 .1 .0) (subst (λ x. WithinForm T m x (suc (best .0)) t) ea (best .1 .1 .0 .1 .1))
@@ -390,27 +390,27 @@ module _ (T : Table) (w : WellFormed T) (m : Model) (serial : Serial m) where
         → Live T m (below (Advance (Some a))) (successorGoal T g (Some a) (insert (everyOperands T 0 (g .set)) i))
     sound-advance a i ia ea (s, (M, F)) = arrive (choose-successor (g .focus) F)
       where
-        Follower : Focus → Type 0
-        Follower f = (t : ℕ) × ((m .leads s t ≡ true) × (Has T m i t × FocusMet T m (below (Advance (Some a))) (focusAfter T (Some a) f) t))
+        Successor : Focus → Type 0
+        Successor f = (t : ℕ) × ((m .leads s t ≡ true) × (Has T m i t × FocusMet T m (below (Advance (Some a))) (focusAfter T (Some a) f) t))
 
-        arrive : Follower (g .focus) → Live T m (below (Advance (Some a))) (successorGoal T g (Some a) (insert (everyOperands T 0 (g .set)) i))
+        arrive : Successor (g .focus) → Live T m (below (Advance (Some a))) (successorGoal T g (Some a) (insert (everyOperands T 0 (g .set)) i))
         arrive r = (r .0, (meets-insert (everyOperands T 0 (g .set)) i (r .0) (meets-next (g .set) s (r .0) M (r .1 .0)) (r .1 .1 .0), r .1 .1 .1))
 
-        asked : (f : Focus) → FocusMet T m trail f s → ((y u : ℕ) → f ≡ Ahead y u → eqb a y ≡ false) → Follower f
+        asked : (f : Focus) → FocusMet T m trail f s → ((y u : ℕ) → f ≡ Ahead y u → eqb a y ≡ false) → Successor f
         asked f G c =
             let r : (t : ℕ) × ((m .leads s t ≡ true) × Has T m i t) = read-next Exists a i s ea (M .1 a ia) in
             (r .0, (r .1 .0, (r .1 .1, focus-any (Some a) f s (r .0) (r .1 .0) c G)))
 
-        split-focus : (y u : ℕ) → FocusMet T m trail (Ahead y u) s → (b : Bool) → eqb a y ≡ b → Follower (Ahead y u)
+        split-focus : (y u : ℕ) → FocusMet T m trail (Ahead y u) s → (b : Bool) → eqb a y ≡ b → Successor (Ahead y u)
         split-focus y u G true e = focus-named a i y u s ea e G
         split-focus y u G false e = asked (Ahead y u) G (λ y′ u′ p. ap (λ z. eqb a z) (sym (ap lead p)) ∙ e)
 
-        choose-successor : (f : Focus) → FocusMet T m trail f s → Follower f
+        choose-successor : (f : Focus) → FocusMet T m trail f s → Successor f
         choose-successor Nowhere G = asked Nowhere G (λ y u p. absurd (subst NotAhead p tt))
         choose-successor (At v) G = asked (At v) G (λ y u p. absurd (subst NotAhead p tt))
         choose-successor (Ahead y u) G = split-focus y u G (eqb a y) refl
 
-    repeat-closed : (u k n s : ℕ) (t : Trail) → Repeats u (g .set) n t → Fresh T m t u k → Meets T m (g .set) s → Within T m u k s → ⊥
+    repeat-closed : (u k n s : ℕ) (t : Trail) → Repeats u (g .set) n t → Fresh T m t u k → SetHolds T m (g .set) s → Within T m u k s → ⊥
     repeat-closed u k n s t (here {x} un co) fr M near =
         fr (not-both u (x .goal) (x .step) un) .0 un s (M .0, λ f b. M .1 f (member-contained (x .goal .set) (g .set) f co b)) near
     repeat-closed u k n s t (higher {n = n′} {above = above} nr rest) fr M near = repeat-closed u k (suc n′) s above rest (fr nr .1) M near

@@ -1,4 +1,4 @@
--- A walk keeps a goal that is met, so a closed walk refutes its set on every machine; and the steps of a closed tree are all accepted and close the walk.
+-- A walk keeps a goal that is met, so a closed walk refutes its set on every model; and the steps of a closed tree are all accepted and close the walk.
 use mathlib.Core.Path.{_≡_, refl, sym, ap, subst, _∙_}
 use mathlib.Core.Bool.{Bool, true, false}
 use mathlib.Core.List.{List, [], _∷_, _++_}
@@ -26,9 +26,14 @@ use Rattle.tableau.specs.Walk.{Walk, underWay, closed, trailOf, start, seconds
 use Rattle.tableau.specs.Tree.{Tree, bare, leaf, stem, fork, root, Obeys, ClosesEveryBranch, steps}
 use Rattle.tableau.specs.Statements.{Among, Walk-keeps, Closed-refutes}
 use Rattle.forms.specs.Meaning.{SetHolds}
-use Rattle.tableau.proofs.Live.{Meets, Live}
+use Rattle.tableau.proofs.Live.{Live}
 use Rattle.tableau.proofs.Sound.{step-sound}
 use Rattle.tableau.proofs.Exact.{Ruled, outcome-ruled, ruled-outcome}
+
+-- a step that is taken
+abbrev pub Accepted : Node → Type 0
+Accepted (accepted walk) = Unit {0}
+Accepted (denied r) = ⊥
 
 module _ (T : Table) (m : Model) where
   abbrev SecondLive : Option Goal → Trail → Type 0
@@ -92,11 +97,11 @@ module _ (T : Table) (w : WellFormed T) (m : Model) (serial : Serial m) where
   run-alive walk sts later (then {later = middle} {step = st} {steps = rest} e r) h =
       run-alive middle rest later r (subst (NodeAlive T m) e (node-alive walk st h))
 
-  starts-alive : (set s : ℕ) → Meets T m set s → Alive T m (start set)
+  starts-alive : (set s : ℕ) → SetHolds T m set s → Alive T m (start set)
   starts-alive set s h = inl (s, (h, tt))
 
   -- a closed walk refutes its set at every state
-  pub closed-refutes : (set : ℕ) (sts : List Step) → Run T (start set) sts closed → (s : ℕ) → Meets T m set s → ⊥
+  pub closed-refutes : (set : ℕ) (sts : List Step) → Run T (start set) sts closed → (s : ℕ) → SetHolds T m set s → ⊥
   closed-refutes set sts r s h = run-alive (start set) sts closed r (starts-alive set s h)
 
 pub run-append : {T : Table} {a b c : Walk} {xs ys : List Step} → Run T a xs b → Run T b ys c → Run T a (xs ++ ys) c

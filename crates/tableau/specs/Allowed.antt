@@ -1,6 +1,6 @@
 -- The step rules as a relation: the outcome that a rule allows for a step at a goal below its trail.
 use mathlib.Core.Path.{_≡_}
-use mathlib.Core.Bool.{Bool, true, false}
+use mathlib.Core.Bool.{Bool, true, false, cond, _&&_}
 use mathlib.Core.List.{List, [], _∷_}
 use Rattle.std.specs.declared.option.Option.{Option}
 use Rattle.std.specs.declared.option.Option.the-variants.{None, Some}
@@ -17,6 +17,8 @@ use Rattle.tableau.specs.declared.goals.Goal.{Goal}
 use Rattle.tableau.specs.declared.goals.Step.{Step}
 use Rattle.tableau.specs.declared.goals.Step.the-variants.{Clash, Absurdity, Split, Choose, Unroll, Refocus, Advance, Repeat}
 use Rattle.tableau.specs.declared.goals.Ancestor.{Ancestor}
+use Rattle.forms.specs.declared.refusal.Refusal.{Refusal}
+use Rattle.forms.specs.declared.refusal.Refusal.the-variants.{NotInGoal, DoesNotFit, DoesNotClose}
 use Rattle.tableau.specs.Steps.{Trail, Outcome, closes, one, two}
 use Rattle.tableau.specs.Nexts.{everyOperands}
 use Rattle.tableau.specs.Focus.{firstFocus, secondFocus, focusAfter}
@@ -55,3 +57,30 @@ pub data Rule (T : Table) (trail : Trail) (g : Goal) : Step → Outcome → Type
   by-any : Rule T trail g (Advance None) (one (successorGoal T g None (everyOperands T 0 (g .set))))
   -- 8: the goal repeats an ancestor, and its until was in focus all the way
   by-repeat : {u n : ℕ} → g .focus ≡ At u → Repeats u (g .set) n trail → Rule T trail g (Repeat n) closes
+
+-- all forms that the step names are in the goal; the second form of step 5 need not be
+abbrev pub allInside : Goal → Step → Bool
+allInside g (Clash a b) = member (g .set) a && member (g .set) b
+allInside g (Absurdity a) = member (g .set) a
+allInside g (Split a) = member (g .set) a
+allInside g (Choose a) = member (g .set) a
+allInside g (Unroll a b) = member (g .set) a
+allInside g (Refocus a) = member (g .set) a
+allInside g (Advance None) = true
+allInside g (Advance (Some a)) = member (g .set) a
+allInside g (Repeat n) = true
+
+-- the refusal of a step whose forms are in the goal
+abbrev pub misfit : Step → Refusal
+misfit (Clash a b) = DoesNotFit
+misfit (Absurdity a) = DoesNotFit
+misfit (Split a) = DoesNotFit
+misfit (Choose a) = DoesNotFit
+misfit (Unroll a b) = DoesNotFit
+misfit (Refocus a) = DoesNotFit
+misfit (Advance a) = DoesNotFit
+misfit (Repeat n) = DoesNotClose
+
+-- why a step that no rule allows is refused
+abbrev pub blame : Goal → Step → Refusal
+blame g step = cond (allInside g step) (misfit step) NotInGoal

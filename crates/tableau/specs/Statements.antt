@@ -8,14 +8,13 @@ use Prim.Native.Nat.{ℕ, _<_, _≤_}
 use lib.Dec.{eqb}
 use lib.ListN.{length}
 use Rattle.ctl.specs.Model.{Model, Serial}
-use Rattle.ctl.specs.Meaning.{Holds}
 use Rattle.forms.specs.Sets.{member, insert, remove, contained}
 use Rattle.forms.specs.declared.form.Quantifier.{Quantifier}
 use Rattle.forms.specs.declared.form.Quantifier.the-variants.{Every}
 use Rattle.forms.specs.declared.form.Form.{Form}
 use Rattle.forms.specs.declared.form.Form.the-variants.{Next}
 use Rattle.forms.specs.Forms.{Table, form, WellFormed}
-use Rattle.forms.specs.Meaning.{formula}
+use Rattle.forms.specs.Meaning.{SetHolds}
 use Rattle.tableau.specs.declared.goals.Goal.{Goal}
 use Rattle.tableau.specs.declared.goals.Focus.{Focus}
 use Rattle.tableau.specs.declared.goals.Focus.the-variants.{Nowhere}
@@ -23,20 +22,16 @@ use Rattle.tableau.specs.declared.goals.Step.{Step}
 use Rattle.tableau.specs.Steps.{Trail, Outcome, closes, one, two, refused, stepOf, numbersOf}
 use Rattle.tableau.specs.Nexts.{everyOperands}
 use Rattle.tableau.specs.Rules.{outcome}
-use Rattle.tableau.specs.Allowed.{Rule}
+use Rattle.tableau.specs.Allowed.{Rule, blame}
 use Rattle.tableau.specs.Walk.{Walk, closed, start, waiting, longestPath, Run}
 use Rattle.tableau.specs.Tree.{Tree, root, Obeys, ClosesEveryBranch, steps}
-
--- each form of the set holds at the state s of m
-abbrev pub SetHolds : Table → Model → ℕ → ℕ → Type 0
-SetHolds T m set s = (s < m .count) × ((f : ℕ) → member set f ≡ true → Holds m (formula T f) s)
 
 -- P of some goal of the list
 abbrev pub Among : (Goal → Type 0) → List Goal → Type 0
 Among P [] = ⊥
 Among P (g ∷ goals) = P g ⊎ Among P goals
 
--- If the set that a walk started from holds at some state of a machine, then the set of some goal that waits holds at some state of the same machine.
+-- If the set that a walk started from holds at some state of a model, then the set of some goal that waits holds at some state of the same model.
 -- Where the walk is closed no goal waits, so there is no such state.
 abbrev pub Walk-keeps : Type 0
 Walk-keeps =
@@ -70,11 +65,16 @@ Allows (one c) = Unit {0}
 Allows (two c d) = Unit {0}
 Allows (refused r) = ⊥
 
--- A step has the outcome that a rule allows; where no rule does, it is refused.
+-- A step has the outcome that a rule allows.
 abbrev pub Outcome-exact : Type 0
 Outcome-exact = (T : Table) (trail : Trail) (g : Goal) (step : Step) (out : Outcome) → Allows out → (outcome T trail g step ≡ out) ↔ Rule T trail g step out
 
--- A closed walk refutes its set on every machine.
+-- Where no rule allows one, the step is refused for its first fault.
+abbrev pub Refusal-exact : Type 0
+Refusal-exact =
+    (T : Table) (trail : Trail) (g : Goal) (step : Step) → ((out : Outcome) → Rule T trail g step out → ⊥) → outcome T trail g step ≡ refused (blame g step)
+
+-- A closed walk refutes its set on every model.
 abbrev pub Closed-refutes : Type 0
 Closed-refutes =
     (T : Table) → WellFormed T → (set : ℕ) (sts : List Step) → Run T (start set) sts closed → (m : Model) → Serial m → (s : ℕ) → SetHolds T m set s → ⊥
