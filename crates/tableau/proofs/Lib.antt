@@ -1,0 +1,13 @@
+pub mod SetLaws
+pub mod Reading
+pub mod Untils
+pub mod Releases
+pub mod Live
+pub mod Decide
+pub mod Sound
+pub mod Exact
+pub mod Walking
+pub mod Grow
+pub mod Regrow
+pub mod Exactness
+pub mod Worked

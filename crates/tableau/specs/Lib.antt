@@ -1,0 +1,10 @@
+pub mod Steps
+pub mod Nexts
+pub mod Focus
+pub mod Ancestors
+pub mod Rules
+pub mod Allowed
+pub mod Walk
+pub mod Tree
+pub mod Statements
+pub mod Worked

@@ -1,0 +1,5 @@
+mod Above
+mod Clashes
+mod Operands
+mod Stack
+mod Treated

@@ -1,0 +1,4 @@
+pub mod Answers
+pub mod Path
+pub mod Progress
+pub mod View
