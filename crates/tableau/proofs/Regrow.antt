@@ -5,14 +5,13 @@ use mathlib.Core.List.{List, [], _∷_, _++_}
 use Rattle.std.specs.declared.option.Option.{Option}
 use Rattle.std.specs.declared.option.Option.the-variants.{None, Some}
 use mathlib.Core.Logic.{_⊎_, inl, inr}
-use Prim.Native.Nat.{ℕ, zero, suc, _+_, _≤_, _<_}
+use Prim.Native.Nat.{ℕ, zero, suc, _+_, _≤_}
 use native.Mathlib.Omega.{arith}
 use native.Mathlib.Nat.{le-refl}
 use lib.ListN.{length}
 use Rattle.std.proofs.shelf.Lists.{append-nil, append-assoc, length-append}
 use Rattle.std.proofs.shelf.Tests.{leb-true}
 use Rattle.forms.specs.Forms.{Table}
-use Rattle.tableau.specs.declared.goals.Focus.{Focus}
 use Rattle.tableau.specs.declared.goals.Focus.the-variants.{Nowhere}
 use Rattle.tableau.specs.declared.goals.Goal.{Goal}
 use Rattle.tableau.specs.declared.goals.Step.{Step}
@@ -20,8 +19,8 @@ use Rattle.tableau.specs.Steps.{Trail, Outcome, closes, one, two, refused}
 use Rattle.tableau.specs.Rules.{outcome}
 use Rattle.tableau.specs.Allowed.{Rule}
 use Rattle.tableau.specs.declared.goals.Frame.{Frame}
-use Rattle.tableau.specs.Walk.{Walk, underWay, closed, trailOf, start, resume, Node, accepted, denied, longestPath, roomBelow, ifRoom, follow, node, Run, done, then}
-use Rattle.tableau.specs.Tree.{Tree, bare, leaf, stem, fork, root, Obeys, ClosesEveryBranch, steps}
+use Rattle.tableau.specs.Walk.{Walk, underWay, closed, trailOf, resume, Node, accepted, denied, longestPath, roomBelow, ifRoom, follow, node, Run, done, then}
+use Rattle.tableau.specs.Tree.{Tree, leaf, stem, fork, root, Obeys, ClosesEveryBranch, steps}
 use Rattle.tableau.specs.Statements.{Closed-is-tree}
 use Rattle.tableau.proofs.Exact.{Ruled, outcome-ruled}
 use Rattle.tableau.proofs.Walking.{Accepted, length-trail}

@@ -1,18 +1,15 @@
 -- The step rules as a relation: the outcome that a rule allows for a step at a goal below its trail.
 use mathlib.Core.Path.{_≡_}
 use mathlib.Core.Bool.{Bool, true, false, cond, _&&_}
-use mathlib.Core.List.{List, [], _∷_}
-use Rattle.std.specs.declared.option.Option.{Option}
+use mathlib.Core.List.{_∷_}
 use Rattle.std.specs.declared.option.Option.the-variants.{None, Some}
-use Prim.Native.Nat.{ℕ, zero, suc}
-use Rattle.forms.specs.Sets.{member, insert, remove, contained}
+use Prim.Native.Nat.{ℕ, suc}
+use Rattle.forms.specs.Sets.{member, insert, contained}
 use Rattle.forms.specs.declared.form.Quantifier.{Quantifier}
-use Rattle.forms.specs.declared.form.Quantifier.the-variants.{Exists, Every}
-use Rattle.forms.specs.declared.form.Form.{Form}
+use Rattle.forms.specs.declared.form.Quantifier.the-variants.{Exists}
 use Rattle.forms.specs.declared.form.Form.the-variants.{Falsity, Atom, Absent, And, Or, Next, Until, Release}
 use Rattle.forms.specs.Forms.{Table, form}
-use Rattle.tableau.specs.declared.goals.Focus.{Focus}
-use Rattle.tableau.specs.declared.goals.Focus.the-variants.{Nowhere, At, Ahead}
+use Rattle.tableau.specs.declared.goals.Focus.the-variants.{At}
 use Rattle.tableau.specs.declared.goals.Goal.{Goal}
 use Rattle.tableau.specs.declared.goals.Step.{Step}
 use Rattle.tableau.specs.declared.goals.Step.the-variants.{Clash, Absurdity, Split, Choose, Unroll, Refocus, Advance, Repeat}
@@ -21,7 +18,7 @@ use Rattle.forms.specs.declared.refusal.Refusal.{Refusal}
 use Rattle.forms.specs.declared.refusal.Refusal.the-variants.{NotInGoal, DoesNotFit, DoesNotClose}
 use Rattle.tableau.specs.Steps.{Trail, Outcome, closes, one, two}
 use Rattle.tableau.specs.Nexts.{everyOperands}
-use Rattle.tableau.specs.Focus.{firstFocus, secondFocus, focusAfter}
+use Rattle.tableau.specs.Focus.{firstFocus, secondFocus}
 use Rattle.tableau.specs.Ancestors.{tookRefocus, unrolledFocus}
 use Rattle.tableau.specs.Rules.{yield₁, yield₂, successorGoal}
 

@@ -1,6 +1,6 @@
 -- What is proved of the rules and the walk.
 use mathlib.Core.Path.{_≡_}
-use mathlib.Core.Bool.{Bool, true, not, _&&_, _||_}
+use mathlib.Core.Bool.{true, not, _&&_, _||_}
 use mathlib.Core.List.{List, [], _∷_, _++_}
 use mathlib.Core.Logic.{_⊎_, _↔_}
 use Rattle.std.specs.declared.option.Option.the-variants.{Some}
@@ -9,14 +9,11 @@ use lib.Dec.{eqb}
 use lib.ListN.{length}
 use Rattle.ctl.specs.Model.{Model, Serial}
 use Rattle.forms.specs.Sets.{member, insert, remove, contained}
-use Rattle.forms.specs.declared.form.Quantifier.{Quantifier}
 use Rattle.forms.specs.declared.form.Quantifier.the-variants.{Every}
-use Rattle.forms.specs.declared.form.Form.{Form}
 use Rattle.forms.specs.declared.form.Form.the-variants.{Next}
 use Rattle.forms.specs.Forms.{Table, form, WellFormed}
 use Rattle.forms.specs.Meaning.{SetHolds}
 use Rattle.tableau.specs.declared.goals.Goal.{Goal}
-use Rattle.tableau.specs.declared.goals.Focus.{Focus}
 use Rattle.tableau.specs.declared.goals.Focus.the-variants.{Nowhere}
 use Rattle.tableau.specs.declared.goals.Step.{Step}
 use Rattle.tableau.specs.Steps.{Trail, Outcome, closes, one, two, refused, stepOf, numbersOf}

@@ -1,6 +1,8 @@
 use Rattle.tableau.proofs.rules_are_sound.Needs as need
 use Rattle.tableau.proofs.Exact.{outcome-exact, refusal-exact}
-use Rattle.tableau.proofs.Exactness.{set-laws, every-operands, bytes-suffice}
+use Rattle.tableau.proofs.SetLaws.{set-laws}
+use Rattle.tableau.proofs.NextSets.{every-operands}
+use Rattle.tableau.proofs.Bytes.{bytes-suffice}
 use Rattle.tableau.proofs.Walking.{walk-keeps, closed-walk-refutes, tree-taken}
 use Rattle.tableau.proofs.Regrow.{closed-is-tree}
 use Rattle.tableau.proofs.Grow.{run-grows}
