@@ -37,6 +37,10 @@ room-of : (b : Bool) (walk later : Walk) → ifRoom b walk ≡ accepted later �
 room-of true walk later e = (refl, ap walkOf e)
 room-of false walk later e = absurd (subst Accepted (sym e) tt)
 
+-- a step, those of its first child and those of its second, in turn
+in-turn : (st : Step) (sts after first left second rest : List Step) → sts ≡ st ∷ after → after ≡ first ++ left → left ≡ second ++ rest → sts ≡ st ∷ (first ++ second) ++ rest
+in-turn st sts after first left second rest e f g = e ∙ ap (λ z. st ∷ z) (f ∙ ap (λ z. first ++ z) g ∙ sym (append-assoc first second rest))
+
 -- a run is at its end, or begins with a step
 record Begun (T : Table) (walk : Walk) (sts : List Step) (end : Walk) : Type 0 where
   step : Step
@@ -84,6 +88,19 @@ regrow T (suc n) g frames sts bound r = go (λ c fs rest l run. regrow T n c fs 
     shorter : (b : Begun T (underWay g frames) sts closed) → length (b .after) ≤ n
     shorter b = let e : length sts ≡ suc (length (b .after)) = ap length (b .split) in omega arith
 
+    fork-of : (b : Begun T (underWay g frames) sts closed) (c d : Goal) → Rule T trail g (b .step) (two c d) → length trail + 2 ≤ longestPath
+        → (t : Subtree T c (framed (b .step) (Some d)) (b .after)) → Subtree T d (framed (b .step) None) (t .left) → Subtree T g frames sts
+    fork-of b c d rule short t u =
+        record {
+          tree = fork g (b .step) (t .tree) (u .tree);
+          left = u .left;
+          top = refl;
+          obeys = (subst (λ z. Rule T trail g (b .step) (two z (root (u .tree)))) (sym (t .top)) (subst (λ z. Rule T trail g (b .step) (two c z)) (sym (u .top)) rule), short, t .obeys, u .obeys);
+          shuts = (t .shuts, u .shuts);
+          begins = in-turn (b .step) sts (b .after) (steps (t .tree)) (t .left) (steps (u .tree)) (u .left) (b .split) (t .begins) (u .begins);
+          goesOn = u .goesOn;
+        }
+
     by : Later → (b : Begun T (underWay g frames) sts closed) (out : Outcome) → Ruled T trail g (b .step) out → follow g (b .step) frames out ≡ accepted (b .later) → Subtree T g frames sts
     by again b closes rule e =
         record {
@@ -113,15 +130,7 @@ regrow T (suc n) g frames sts bound r = go (λ c fs rest l run. regrow T n c fs 
         let size : length (b .after) ≡ length (steps (t .tree)) + length (t .left) = ap length (t .begins) ∙ length-append (steps (t .tree)) (t .left) in
         let few : length (b .after) ≤ n = shorter b in
         let u : Subtree T d (framed (b .step) None) (t .left) = again d (framed (b .step) None) (t .left) (omega arith) (t .goesOn) in
-        record {
-          tree = fork g (b .step) (t .tree) (u .tree);
-          left = u .left;
-          top = refl;
-          obeys = (subst (λ z. Rule T trail g (b .step) (two z (root (u .tree)))) (sym (t .top)) (subst (λ z. Rule T trail g (b .step) (two c z)) (sym (u .top)) rule), room (k .0), t .obeys, u .obeys);
-          shuts = (t .shuts, u .shuts);
-          begins = b .split ∙ ap (λ z. b .step ∷ z) (t .begins ∙ ap (λ z. steps (t .tree) ++ z) (u .begins) ∙ sym (append-assoc (steps (t .tree)) (steps (u .tree)) (u .left)));
-          goesOn = u .goesOn;
-        }
+        fork-of b c d rule (room (k .0)) t u
     by again b (refused x) rule e = absurd (subst Accepted (sym e) tt)
 
     step-of : Later → (b : Begun T (underWay g frames) sts closed) → Subtree T g frames sts

@@ -31,6 +31,7 @@ pub data Repeats (u s : ℕ) : ℕ → Trail → Type 0 where
   here : {x : Ancestor} {above : Trail} → unrolledFocus u x ≡ true → contained (x .goal .set) s ≡ true → Repeats u s 1 (x ∷ above)
   higher : {n : ℕ} {x : Ancestor} {above : Trail} → tookRefocus x ≡ false → Repeats u s (suc n) above → Repeats u s (suc (suc n)) (x ∷ above)
 
+-- The steps that a goal may take, by their numbers, with what each comes to.
 pub data Rule (T : Table) (trail : Trail) (g : Goal) : Step → Outcome → Type 0 where
   -- 1: an atom and its absence
   by-clash : {a b p : ℕ} → In g a → In g b → form T a ≡ Atom p → form T b ≡ Absent p → Rule T trail g (Clash a b) closes

@@ -20,7 +20,7 @@ use Rattle.tableau.specs.Steps.{Trail, Outcome, closes, one, two, refused, ste
 use Rattle.tableau.specs.Nexts.{everyOperands}
 use Rattle.tableau.specs.Rules.{outcome}
 use Rattle.tableau.specs.Allowed.{Rule, blame}
-use Rattle.tableau.specs.Walk.{Walk, closed, start, waiting, longestPath, Run}
+use Rattle.tableau.specs.Walk.{Walk, closed, start, waiting, Run}
 use Rattle.tableau.specs.Tree.{Tree, root, Obeys, ClosesEveryBranch, steps}
 
 -- P of some goal of the list
@@ -88,8 +88,15 @@ abbrev pub Every-operands : Type 0
 Every-operands =
     (T : Table) (s i : ℕ) → (member (everyOperands T 0 s) i ≡ true) ↔ ((f : ℕ) × (member s f ≡ true) × (form T f ≡ Next Every i))
 
--- Three bytes suffice to write an allowed step, and are read as that step.
-abbrev pub Bytes-suffice : Type 0
-Bytes-suffice =
-    (T : Table) (trail : Trail) (g : Goal) (step : Step) (out : Outcome) → length T ≤ 64 → InTable T (g .set) → length trail < longestPath → Rule T trail g step out
-    → (numbersOf step .1 < 256) × (numbersOf step .2 < 256) × (stepOf (numbersOf step .0) (numbersOf step .1) (numbersOf step .2) ≡ Some step)
+-- the three numbers of the step are bytes, and are read as that step
+abbrev pub InBytes : Step → Type 0
+InBytes step =
+    (numbersOf step .0 < 256) × (numbersOf step .1 < 256) × (numbersOf step .2 < 256) × (stepOf (numbersOf step .0) (numbersOf step .1) (numbersOf step .2) ≡ Some step)
+
+abbrev pub AllInBytes : List Step → Type 0
+AllInBytes [] = Unit {0}
+AllInBytes (step ∷ sts) = InBytes step × AllInBytes sts
+
+-- Over a table of at most 64 forms, each step of a tree that obeys the rules can be written in three bytes.
+abbrev pub Tree-in-bytes : Type 0
+Tree-in-bytes = (T : Table) → length T ≤ 64 → (t : Tree) → Obeys T [] t → AllInBytes (steps t)

@@ -16,6 +16,7 @@ pub data Tree : Type 0 where
   stem : Goal → Step → Tree → Tree
   fork : Goal → Step → (first second : Tree) → Tree
 
+-- the goal at the top
 abbrev pub root : Tree → Goal
 root (bare g) = g
 root (leaf g st) = g
