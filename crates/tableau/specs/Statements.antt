@@ -23,6 +23,34 @@ use Rattle.tableau.specs.Allowed.{Rule, blame}
 use Rattle.tableau.specs.Walk.{Walk, closed, start, waiting, Run}
 use Rattle.tableau.specs.Tree.{Tree, root, Obeys, ClosesEveryBranch, steps}
 
+-- Insertion, removal and containment, by the forms in the sets.
+abbrev pub Set-laws : Type 0
+Set-laws =
+    ((s f g : ℕ) → member (insert s f) g ≡ (member s g || eqb f g))
+    × ((s f g : ℕ) → member (remove s f) g ≡ (member s g && not (eqb f g)))
+    × ((r s : ℕ) → (contained r s ≡ true) ↔ ((f : ℕ) → member r f ≡ true → member s f ≡ true))
+
+-- The set after step 7, the form that the step names apart, has just the operands of the forms of all successors in the goal.
+abbrev pub Every-operands : Type 0
+Every-operands =
+    (T : Table) (s i : ℕ) → (member (everyOperands T 0 s) i ≡ true) ↔ ((f : ℕ) × (member s f ≡ true) × (form T f ≡ Next Every i))
+
+-- an outcome that is no refusal
+abbrev pub Allows : Outcome → Type 0
+Allows closes = Unit {0}
+Allows (one c) = Unit {0}
+Allows (two c d) = Unit {0}
+Allows (refused r) = ⊥
+
+-- A step has just the outcome that a rule allows.
+abbrev pub Outcome-exact : Type 0
+Outcome-exact = (T : Table) (trail : Trail) (g : Goal) (step : Step) (out : Outcome) → Allows out → (outcome T trail g step ≡ out) ↔ Rule T trail g step out
+
+-- Where no rule allows one, the step is refused for its first fault.
+abbrev pub Refusal-exact : Type 0
+Refusal-exact =
+    (T : Table) (trail : Trail) (g : Goal) (step : Step) → ((out : Outcome) → Rule T trail g step out → ⊥) → outcome T trail g step ≡ refused (blame g step)
+
 -- P of some goal of the list
 abbrev pub Among : (Goal → Type 0) → List Goal → Type 0
 Among P [] = ⊥
@@ -35,10 +63,10 @@ Walk-keeps =
     (T : Table) → WellFormed T → (m : Model) → Serial m → (set : ℕ) (sts : List Step) (walk : Walk) → Run T (start set) sts walk
     → (s : ℕ) → SetHolds T m set s → Among (λ g. (t : ℕ) × SetHolds T m (g .set) t) (waiting walk)
 
--- A tree that obeys the rules and closes every branch is taken whole.
-abbrev pub Tree-taken : Type 0
-Tree-taken =
-    (T : Table) (set : ℕ) (t : Tree) → root t ≡ record { set = set; focus = Nowhere } → Obeys T [] t → ClosesEveryBranch t → Run T (start set) (steps t) closed
+-- A closed walk refutes its set on every model.
+abbrev pub Closed-refutes : Type 0
+Closed-refutes =
+    (T : Table) → WellFormed T → (set : ℕ) (sts : List Step) → Run T (start set) sts closed → (m : Model) → Serial m → (s : ℕ) → SetHolds T m set s → ⊥
 
 -- All members of the set are forms of the table.
 abbrev pub InTable : Table → ℕ → Type 0
@@ -49,44 +77,16 @@ abbrev pub Run-grows : Type 0
 Run-grows =
     (T : Table) → WellFormed T → (more : Table) (set : ℕ) → InTable T set → (sts : List Step) (walk : Walk) → Run T (start set) sts walk → Run (T ++ more) (start set) sts walk
 
+-- A tree that obeys the rules and closes every branch is taken whole.
+abbrev pub Tree-taken : Type 0
+Tree-taken =
+    (T : Table) (set : ℕ) (t : Tree) → root t ≡ record { set = set; focus = Nowhere } → Obeys T [] t → ClosesEveryBranch t → Run T (start set) (steps t) closed
+
 -- And only such trees are: accepted steps that close a walk are those of a tree that obeys the rules and closes every branch.
 abbrev pub Closed-is-tree : Type 0
 Closed-is-tree =
     (T : Table) (set : ℕ) (sts : List Step) → Run T (start set) sts closed
     → (t : Tree) × (root t ≡ record { set = set; focus = Nowhere }) × Obeys T [] t × ClosesEveryBranch t × (steps t ≡ sts)
-
--- an outcome that is no refusal
-abbrev pub Allows : Outcome → Type 0
-Allows closes = Unit {0}
-Allows (one c) = Unit {0}
-Allows (two c d) = Unit {0}
-Allows (refused r) = ⊥
-
--- A step has the outcome that a rule allows.
-abbrev pub Outcome-exact : Type 0
-Outcome-exact = (T : Table) (trail : Trail) (g : Goal) (step : Step) (out : Outcome) → Allows out → (outcome T trail g step ≡ out) ↔ Rule T trail g step out
-
--- Where no rule allows one, the step is refused for its first fault.
-abbrev pub Refusal-exact : Type 0
-Refusal-exact =
-    (T : Table) (trail : Trail) (g : Goal) (step : Step) → ((out : Outcome) → Rule T trail g step out → ⊥) → outcome T trail g step ≡ refused (blame g step)
-
--- A closed walk refutes its set on every model.
-abbrev pub Closed-refutes : Type 0
-Closed-refutes =
-    (T : Table) → WellFormed T → (set : ℕ) (sts : List Step) → Run T (start set) sts closed → (m : Model) → Serial m → (s : ℕ) → SetHolds T m set s → ⊥
-
--- Insertion, removal and containment, by the forms in the sets.
-abbrev pub Set-laws : Type 0
-Set-laws =
-    ((s f g : ℕ) → member (insert s f) g ≡ (member s g || eqb f g))
-    × ((s f g : ℕ) → member (remove s f) g ≡ (member s g && not (eqb f g)))
-    × ((r s : ℕ) → (contained r s ≡ true) ↔ ((f : ℕ) → member r f ≡ true → member s f ≡ true))
-
--- The set after step 7, the form that the step names apart, has just the operands of the forms of all successors in the goal.
-abbrev pub Every-operands : Type 0
-Every-operands =
-    (T : Table) (s i : ℕ) → (member (everyOperands T 0 s) i ≡ true) ↔ ((f : ℕ) × (member s f ≡ true) × (form T f ≡ Next Every i))
 
 -- the three numbers of the step are bytes, and are read as that step
 abbrev pub InBytes : Step → Type 0
