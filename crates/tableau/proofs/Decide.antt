@@ -1,6 +1,6 @@
 -- On a finite model it is decided whether some state meets a set within so many rounds of an until, so there is a least number of rounds.
-use mathlib.Core.Path.{_≡_, refl, sym, subst}
-use mathlib.Core.Bool.{Bool, true, false, Bool-discrete}
+use mathlib.Core.Path.{_≡_, sym, subst}
+use mathlib.Core.Bool.{true, Bool-discrete}
 use mathlib.Core.Logic.{_⊎_, inl, inr}
 use Prim.Native.Nat.{ℕ, zero, suc, _<_, _≤_}
 use native.Mathlib.Omega.{arith}
@@ -17,7 +17,7 @@ use Rattle.forms.specs.declared.form.Quantifier.the-variants.{Exists, Every}
 use Rattle.forms.specs.declared.form.Form.{Form}
 use Rattle.forms.specs.declared.form.Form.the-variants.{Truth, Falsity, Atom, Absent, And, Or, Next, Until, Release}
 use Rattle.forms.specs.Forms.{Table, WellFormed, form}
-use Rattle.forms.specs.Meaning.{formula, reading, SetHolds}
+use Rattle.forms.specs.Meaning.{formula, SetHolds}
 use Rattle.tableau.proofs.Untils.{AtSuccessors, Reach}
 use Rattle.tableau.proofs.Reading.{formula-of}
 use Rattle.tableau.proofs.Live.{Has, Within, WithinForm, Beyond}

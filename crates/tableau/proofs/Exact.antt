@@ -1,8 +1,7 @@
 -- The function that takes a step and the relation of the rules say the same.
 use mathlib.Core.Path.{_≡_, refl, sym, ap, subst, _∙_}
 use mathlib.Core.Bool.{Bool, true, false, not, cond, _&&_}
-use mathlib.Core.List.{List, [], _∷_}
-use Rattle.std.specs.declared.option.Option.{Option}
+use mathlib.Core.List.{[], _∷_}
 use Rattle.std.specs.declared.option.Option.the-variants.{None, Some}
 use Prim.Native.Nat.{ℕ, zero, suc}
 use lib.Dec.{eqb}
@@ -18,7 +17,6 @@ use Rattle.tableau.specs.declared.goals.Focus.the-variants.{Nowhere, At, Ahead
 use Rattle.tableau.specs.declared.goals.Goal.{Goal}
 use Rattle.tableau.specs.declared.goals.Step.{Step}
 use Rattle.tableau.specs.declared.goals.Step.the-variants.{Clash, Absurdity, Split, Choose, Unroll, Refocus, Advance, Repeat}
-use Rattle.tableau.specs.declared.goals.Ancestor.{Ancestor}
 use Rattle.forms.specs.declared.refusal.Refusal.{Refusal}
 use Rattle.forms.specs.declared.refusal.Refusal.the-variants.{NotInGoal, DoesNotFit, DoesNotClose}
 use Rattle.tableau.specs.Steps.{Trail, Outcome, closes, one, two, refused}

@@ -5,13 +5,12 @@ use mathlib.Core.List.{List, [], _∷_, _++_}
 use Rattle.std.specs.declared.option.Option.{Option}
 use Rattle.std.specs.declared.option.Option.the-variants.{None, Some}
 use mathlib.Core.Logic.{_⊎_, inl, inr}
-use Prim.Native.Nat.{ℕ, zero, suc, _+_, _≤_, _<_}
+use Prim.Native.Nat.{ℕ, suc, _+_, _≤_, _<_}
 use native.Mathlib.Omega.{arith}
-use lib.ListN.{length, getD}
+use lib.ListN.{length}
 use Rattle.std.proofs.shelf.Lists.{getD-append-left, getD-past}
-use Rattle.std.proofs.shelf.Tests.{cases-lt, cases-bool, false≢true}
+use Rattle.std.proofs.shelf.Tests.{cases-lt, cases-bool}
 use Rattle.forms.specs.Sets.{member, insert, remove}
-use Rattle.forms.specs.declared.form.Quantifier.{Quantifier}
 use Rattle.forms.specs.declared.form.Quantifier.the-variants.{Exists, Every}
 use Rattle.forms.specs.declared.form.Form.{Form}
 use Rattle.forms.specs.declared.form.Form.the-variants.{Truth, Falsity, Atom, Absent, And, Or, Next, Until, Release}
@@ -20,18 +19,17 @@ use Rattle.tableau.specs.declared.goals.Focus.{Focus}
 use Rattle.tableau.specs.declared.goals.Focus.the-variants.{Nowhere, At, Ahead}
 use Rattle.tableau.specs.declared.goals.Goal.{Goal}
 use Rattle.tableau.specs.declared.goals.Step.{Step}
-use Rattle.tableau.specs.declared.goals.Step.the-variants.{Clash, Absurdity, Split, Choose, Unroll, Refocus, Advance, Repeat}
-use Rattle.tableau.specs.declared.goals.Ancestor.{Ancestor}
+use Rattle.tableau.specs.declared.goals.Step.the-variants.{Advance}
 use Rattle.tableau.specs.Steps.{Trail, Outcome, closes, one, two, refused}
 use Rattle.tableau.specs.Nexts.{isEvery, joinEvery, everyOperands}
 use Rattle.tableau.specs.Focus.{focusedAt, firstFocus, secondFocus, names, focusAfter}
-use Rattle.tableau.specs.Rules.{successorGoal, outcome}
+use Rattle.tableau.specs.Rules.{outcome}
 use Rattle.tableau.specs.Allowed.{In, Rule, by-clash, by-absurdity, by-split, by-choose, by-until, by-release, by-refocus, by-advance, by-any, by-repeat}
 use Rattle.tableau.specs.declared.goals.Frame.{Frame}
 use Rattle.tableau.specs.Walk.{Walk, underWay, closed, trailOf, start, resume, Node, accepted, denied, roomBelow, ifRoom, follow, node, Run, done, then}
 use Rattle.tableau.specs.Statements.{InTable, Run-grows}
 use Rattle.tableau.proofs.SetLaws.{inserted, kept}
-use Rattle.tableau.proofs.Sound.{every-member}
+use Rattle.tableau.proofs.NextSets.{every-member}
 use Rattle.tableau.proofs.Exact.{Ruled, outcome-ruled, ruled-outcome}
 use Rattle.tableau.proofs.Walking.{Accepted}
 

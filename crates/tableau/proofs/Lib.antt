@@ -1,4 +1,5 @@
 pub mod SetLaws
+pub mod NextSets
 pub mod Reading
 pub mod Untils
 pub mod Releases
@@ -9,5 +10,5 @@ pub mod Exact
 pub mod Walking
 pub mod Grow
 pub mod Regrow
-pub mod Exactness
+pub mod Bytes
 pub mod Worked

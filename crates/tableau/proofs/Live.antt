@@ -1,9 +1,9 @@
 -- When a goal below its trail is met at a state: its set holds there, and the until in focus is nearer to its end than at any ancestor that unrolled it.
 use mathlib.Core.Path.{_≡_}
 use mathlib.Core.Bool.{true, false}
-use mathlib.Core.List.{List, [], _∷_}
+use mathlib.Core.List.{[], _∷_}
 use mathlib.Core.Logic.{_⊎_}
-use Prim.Native.Nat.{ℕ, _<_}
+use Prim.Native.Nat.{ℕ}
 use Rattle.ctl.specs.Model.{Model}
 use Rattle.ctl.specs.Meaning.{Holds}
 use Rattle.forms.specs.declared.form.Form.{Form}
@@ -13,7 +13,6 @@ use Rattle.forms.specs.Meaning.{formula, SetHolds}
 use Rattle.tableau.specs.declared.goals.Focus.{Focus}
 use Rattle.tableau.specs.declared.goals.Focus.the-variants.{Nowhere, At, Ahead}
 use Rattle.tableau.specs.declared.goals.Goal.{Goal}
-use Rattle.tableau.specs.declared.goals.Ancestor.{Ancestor}
 use Rattle.tableau.specs.Steps.{Trail, Outcome, closes, one, two, refused}
 use Rattle.tableau.specs.Ancestors.{tookRefocus, unrolledFocus}
 use Rattle.tableau.proofs.Untils.{AtSuccessors, Reach}

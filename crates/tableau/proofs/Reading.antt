@@ -1,10 +1,8 @@
 -- In a table whose operands are earlier forms, a form stands for its shape over the formulas of its operands.
 use mathlib.Core.Path.{_≡_, refl, ap, ap₂, _∙_}
-use mathlib.Core.List.{List}
 use Prim.Native.Nat.{ℕ, zero, suc, _<_}
 use native.Mathlib.Omega.{arith}
 use Rattle.ctl.specs.Formula.{Formula, both, either, EX, AX, EU, AU, ER, AR}
-use Rattle.forms.specs.declared.form.Quantifier.{Quantifier}
 use Rattle.forms.specs.declared.form.Quantifier.the-variants.{Exists, Every}
 use Rattle.forms.specs.declared.form.Form.{Form}
 use Rattle.forms.specs.declared.form.Form.the-variants.{Truth, Falsity, Atom, Absent, And, Or, Next, Until, Release}

@@ -5,14 +5,13 @@ use mathlib.Core.List.{List, [], _∷_, _++_}
 use Rattle.std.specs.declared.option.Option.{Option}
 use Rattle.std.specs.declared.option.Option.the-variants.{None, Some}
 use mathlib.Core.Logic.{_⊎_, inl, inr}
-use Prim.Native.Nat.{ℕ, zero, suc, _+_, _≤_, _<_}
+use Prim.Native.Nat.{ℕ, zero, suc, _+_, _≤_}
 use native.Mathlib.Omega.{arith}
 use native.Mathlib.Nat.{le-refl}
 use lib.ListN.{length}
 use Rattle.std.proofs.shelf.Lists.{append-nil, append-assoc, length-append}
 use Rattle.std.proofs.shelf.Tests.{leb-true}
 use Rattle.forms.specs.Forms.{Table}
-use Rattle.tableau.specs.declared.goals.Focus.{Focus}
 use Rattle.tableau.specs.declared.goals.Focus.the-variants.{Nowhere}
 use Rattle.tableau.specs.declared.goals.Goal.{Goal}
 use Rattle.tableau.specs.declared.goals.Step.{Step}
@@ -20,8 +19,8 @@ use Rattle.tableau.specs.Steps.{Trail, Outcome, closes, one, two, refused}
 use Rattle.tableau.specs.Rules.{outcome}
 use Rattle.tableau.specs.Allowed.{Rule}
 use Rattle.tableau.specs.declared.goals.Frame.{Frame}
-use Rattle.tableau.specs.Walk.{Walk, underWay, closed, trailOf, start, resume, Node, accepted, denied, longestPath, roomBelow, ifRoom, follow, node, Run, done, then}
-use Rattle.tableau.specs.Tree.{Tree, bare, leaf, stem, fork, root, Obeys, ClosesEveryBranch, steps}
+use Rattle.tableau.specs.Walk.{Walk, underWay, closed, trailOf, resume, Node, accepted, denied, longestPath, roomBelow, ifRoom, follow, node, Run, done, then}
+use Rattle.tableau.specs.Tree.{Tree, leaf, stem, fork, root, Obeys, ClosesEveryBranch, steps}
 use Rattle.tableau.specs.Statements.{Closed-is-tree}
 use Rattle.tableau.proofs.Exact.{Ruled, outcome-ruled}
 use Rattle.tableau.proofs.Walking.{Accepted, length-trail}
@@ -37,6 +36,10 @@ walkOf (denied r) = closed
 room-of : (b : Bool) (walk later : Walk) → ifRoom b walk ≡ accepted later → (b ≡ true) × (walk ≡ later)
 room-of true walk later e = (refl, ap walkOf e)
 room-of false walk later e = absurd (subst Accepted (sym e) tt)
+
+-- a step, those of its first child and those of its second, in turn
+in-turn : (st : Step) (sts after first left second rest : List Step) → sts ≡ st ∷ after → after ≡ first ++ left → left ≡ second ++ rest → sts ≡ st ∷ (first ++ second) ++ rest
+in-turn st sts after first left second rest e f g = e ∙ ap (λ z. st ∷ z) (f ∙ ap (λ z. first ++ z) g ∙ sym (append-assoc first second rest))
 
 -- a run is at its end, or begins with a step
 record Begun (T : Table) (walk : Walk) (sts : List Step) (end : Walk) : Type 0 where
@@ -85,6 +88,19 @@ regrow T (suc n) g frames sts bound r = go (λ c fs rest l run. regrow T n c fs 
     shorter : (b : Begun T (underWay g frames) sts closed) → length (b .after) ≤ n
     shorter b = let e : length sts ≡ suc (length (b .after)) = ap length (b .split) in omega arith
 
+    fork-of : (b : Begun T (underWay g frames) sts closed) (c d : Goal) → Rule T trail g (b .step) (two c d) → length trail + 2 ≤ longestPath
+        → (t : Subtree T c (framed (b .step) (Some d)) (b .after)) → Subtree T d (framed (b .step) None) (t .left) → Subtree T g frames sts
+    fork-of b c d rule short t u =
+        record {
+          tree = fork g (b .step) (t .tree) (u .tree);
+          left = u .left;
+          top = refl;
+          obeys = (subst (λ z. Rule T trail g (b .step) (two z (root (u .tree)))) (sym (t .top)) (subst (λ z. Rule T trail g (b .step) (two c z)) (sym (u .top)) rule), short, t .obeys, u .obeys);
+          shuts = (t .shuts, u .shuts);
+          begins = in-turn (b .step) sts (b .after) (steps (t .tree)) (t .left) (steps (u .tree)) (u .left) (b .split) (t .begins) (u .begins);
+          goesOn = u .goesOn;
+        }
+
     by : Later → (b : Begun T (underWay g frames) sts closed) (out : Outcome) → Ruled T trail g (b .step) out → follow g (b .step) frames out ≡ accepted (b .later) → Subtree T g frames sts
     by again b closes rule e =
         record {
@@ -114,15 +130,7 @@ regrow T (suc n) g frames sts bound r = go (λ c fs rest l run. regrow T n c fs 
         let size : length (b .after) ≡ length (steps (t .tree)) + length (t .left) = ap length (t .begins) ∙ length-append (steps (t .tree)) (t .left) in
         let few : length (b .after) ≤ n = shorter b in
         let u : Subtree T d (framed (b .step) None) (t .left) = again d (framed (b .step) None) (t .left) (omega arith) (t .goesOn) in
-        record {
-          tree = fork g (b .step) (t .tree) (u .tree);
-          left = u .left;
-          top = refl;
-          obeys = (subst (λ z. Rule T trail g (b .step) (two z (root (u .tree)))) (sym (t .top)) (subst (λ z. Rule T trail g (b .step) (two c z)) (sym (u .top)) rule), room (k .0), t .obeys, u .obeys);
-          shuts = (t .shuts, u .shuts);
-          begins = b .split ∙ ap (λ z. b .step ∷ z) (t .begins ∙ ap (λ z. steps (t .tree) ++ z) (u .begins) ∙ sym (append-assoc (steps (t .tree)) (steps (u .tree)) (u .left)));
-          goesOn = u .goesOn;
-        }
+        fork-of b c d rule (room (k .0)) t u
     by again b (refused x) rule e = absurd (subst Accepted (sym e) tt)
 
     step-of : Later → (b : Begun T (underWay g frames) sts closed) → Subtree T g frames sts

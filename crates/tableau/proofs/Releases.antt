@@ -1,8 +1,8 @@
 -- A release holds at s only where its second operand does, and then its first does too or the release holds at a successor (some or all of them).
-use mathlib.Core.Path.{_≡_, subst}
+use mathlib.Core.Path.{subst}
 use mathlib.Core.Logic.{_⊎_, inl, inr}
 use Prim.Native.Nat.{ℕ, _<_}
-use Rattle.ctl.specs.Model.{Model, Serial, Path}
+use Rattle.ctl.specs.Model.{Model, Serial}
 use Rattle.ctl.specs.Formula.{Formula, EX, AX, ER, AR}
 use Rattle.ctl.specs.Meaning.{Holds}
 use Rattle.ctl.proofs.Paths.{any-path, prepend, rest, first-step, release-now, release-later}

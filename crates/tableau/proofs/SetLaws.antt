@@ -2,7 +2,7 @@
 use mathlib.Core.Path.{_≡_, refl, sym, ap, subst, _∙_}
 use mathlib.Core.Bool.{Bool, true, false, _&&_, _||_, not}
 use mathlib.Core.Logic.{_⊎_, inl, inr}
-use Prim.Native.Nat.{ℕ, zero, suc, _/_, _%_, _^_, _<_, _≤_, _+_, _-_, _*_}
+use Prim.Native.Nat.{ℕ, zero, suc, _/_, _%_, _^_, _<_, _≤_, _+_, _-_}
 use native.Mathlib.Omega.{arith}
 use native.Mathlib.Nat.{div-self, div-eq-of-lt, pow-suc, mul-mod-left}
 use lib.Dec.{eqb}
@@ -10,6 +10,7 @@ use lib.Pow.{pow-mono}
 use lib.Bits.{bitAnd, bitOr, bitXor}
 use Rattle.std.proofs.shelf.Bits.{and-shr, or-shr, xor-shr, and-mod, or-mod, xor-mod, shl-shr, shr-shr, shr-below, and-le-l, pow-add, pow-pos, pow-below, mod-below}
 use Rattle.std.proofs.shelf.Tests.{eqb-true, eq-eqb, ne-eqb, cases-order, or-cases, and-parts, both-ways, true≢false, false≢true}
+use Rattle.tableau.specs.Statements.{Set-laws}
 use Rattle.forms.specs.Sets.{member, insert, remove, contained}
 
 -- the last bit of a number
@@ -77,10 +78,6 @@ inserted s f g e = go (or-cases (member s g) (eqb f g) (sym (member-insert s f g
 pub kept : (s f g : ℕ) → member (remove s f) g ≡ true → member s g ≡ true
 kept s f g e = and-parts (member s g) (not (eqb f g)) (sym (member-remove s f g) ∙ e) .0
 
-pub member-and : (r s f : ℕ) → member (bitAnd r s) f ≡ (member r f && member s f)
-unfolding bit
-member-and r s f = ap bit (and-shr r s f) ∙ bit-and (r / 2 ^ f) (s / 2 ^ f)
-
 pub member-contained : (r s f : ℕ) → contained r s ≡ true → member r f ≡ true → member s f ≡ true
 unfolding contained bit
 member-contained r s f c e =
@@ -126,3 +123,6 @@ contained-member r s h =
 -- a set of 64 bits has no form above 63
 pub member-above : (s f : ℕ) → s < 2 ^ 64 → 64 ≤ f → member s f ≡ false
 member-above s f small above = ap (λ n. eqb (n % 2) 1) (div-eq-of-lt (omega (arith, pow-mono above)))
+
+pub set-laws : Set-laws
+set-laws = (member-insert, member-remove, λ r s. ((λ c f b. member-contained r s f c b), contained-member r s))

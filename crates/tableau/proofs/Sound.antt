@@ -1,19 +1,18 @@
 -- Each step rule leads from a goal that is met at some state of a model to one that is met at some state of the same model.
 use mathlib.Core.Path.{_≡_, refl, sym, ap, subst, _∙_}
-use mathlib.Core.Bool.{Bool, true, false, cond, _&&_, _||_, true≢false}
-use mathlib.Core.List.{List, [], _∷_}
+use mathlib.Core.Bool.{Bool, true, false, cond, _||_, true≢false}
+use mathlib.Core.List.{[], _∷_}
 use Rattle.std.specs.declared.option.Option.{Option}
 use Rattle.std.specs.declared.option.Option.the-variants.{None, Some}
 use mathlib.Core.Logic.{_⊎_, inl, inr}
 use Prim.Native.Nat.{ℕ, zero, suc, _+_, _/_, _%_, _^_, _<_, _≤_}
 use native.Mathlib.Omega.{arith}
 use lib.Dec.{eqb}
-use lib.ListN.{getD}
-use Rattle.std.proofs.shelf.Tests.{eqb-true, and-parts, or-cases, false≢true}
+use Rattle.std.proofs.shelf.Tests.{eqb-true, and-parts, false≢true}
 use Rattle.ctl.specs.Model.{Model, Serial}
 use Rattle.ctl.specs.Formula.{EX, AX, ER, AR}
 use Rattle.ctl.specs.Meaning.{Holds}
-use Rattle.forms.specs.Sets.{member, insert, remove, contained}
+use Rattle.forms.specs.Sets.{member, insert, remove}
 use Rattle.forms.specs.declared.form.Quantifier.{Quantifier}
 use Rattle.forms.specs.declared.form.Quantifier.the-variants.{Exists, Every}
 use Rattle.forms.specs.declared.form.Form.{Form}
@@ -26,52 +25,19 @@ use Rattle.tableau.specs.declared.goals.Goal.{Goal}
 use Rattle.tableau.specs.declared.goals.Step.{Step}
 use Rattle.tableau.specs.declared.goals.Step.the-variants.{Clash, Absurdity, Split, Choose, Unroll, Refocus, Advance, Repeat}
 use Rattle.tableau.specs.declared.goals.Ancestor.{Ancestor}
-use Rattle.tableau.specs.Steps.{Trail, Outcome, closes, one, two, refused}
-use Rattle.tableau.specs.Nexts.{isEvery, joinEvery, everyOperands}
+use Rattle.tableau.specs.Steps.{Trail, Outcome}
+use Rattle.tableau.specs.Nexts.{isEvery, everyOperands}
 use Rattle.tableau.specs.Focus.{focusedAt, firstFocus, secondFocus, names, focusAfter}
 use Rattle.tableau.specs.Ancestors.{tookRefocus, unrolledFocus}
 use Rattle.tableau.specs.Rules.{yield₁, yield₂, successorGoal}
 use Rattle.tableau.specs.Allowed.{In, Repeats, here, higher, Rule, by-clash, by-absurdity, by-split, by-choose, by-until, by-release, by-refocus, by-advance, by-any, by-repeat}
 use Rattle.tableau.proofs.Untils.{AtSuccessors, Reach, some-until, every-until}
-use Rattle.tableau.proofs.SetLaws.{inserted, kept, member-contained, member-zero}
+use Rattle.tableau.proofs.NextSets.{every-member}
+use Rattle.tableau.proofs.SetLaws.{inserted, kept, member-contained}
 use Rattle.tableau.proofs.Reading.{formula-of}
 use Rattle.tableau.proofs.Live.{Has, Within, WithinForm, AheadForm, Beyond, Fresh, FocusMet, Live, SomeLive}
 use Rattle.tableau.proofs.Decide.{least}
 use Rattle.tableau.proofs.Releases.{some-release, every-release}
-
--- a member of the set after step 7 is the operand of a form of all successors in the set before
-joined-every : (x : Form) (b : Bool) (r g : ℕ) → member (joinEvery x b r) g ≡ true → (member r g ≡ true) ⊎ ((b ≡ true) × (x ≡ Next Every g))
-joined-every (Next Every i) true r g h = go (inserted r i g h)
-  where
-    go : (member r g ≡ true) ⊎ (g ≡ i) → (member r g ≡ true) ⊎ ((true ≡ true) × (Next Every i ≡ Next Every g))
-    go (inl e) = inl e
-    go (inr e) = inr (refl, ap (Next Every) (sym e))
-joined-every (Next Every i) false r g h = inl h
-joined-every (Next Exists i) b r g h = inl h
-joined-every Truth b r g h = inl h
-joined-every Falsity b r g h = inl h
-joined-every (Atom p) b r g h = inl h
-joined-every (Absent p) b r g h = inl h
-joined-every (And i j) b r g h = inl h
-joined-every (Or i j) b r g h = inl h
-joined-every (Until q i j) b r g h = inl h
-joined-every (Release q i j) b r g h = inl h
-
-pub every-member : (L : List Form) (n s g : ℕ) → member (everyOperands L n s) g ≡ true → (y : ℕ) × ((member s (n + y) ≡ true) × (getD L y Truth ≡ Next Every g))
-unfolding everyOperands
-every-member [] n s g h = absurd (member-zero g h)
-every-member (x ∷ rest) n s g h = go (joined-every x (member s n) (everyOperands rest (suc n) s) g h) (λ k. every-member rest (suc n) s g k)
-  where
-    Found : Type 0
-    Found = (y : ℕ) × ((member s (n + y) ≡ true) × (getD (x ∷ rest) y Truth ≡ Next Every g))
-
-    go : (member (everyOperands rest (suc n) s) g ≡ true) ⊎ ((member s n ≡ true) × (x ≡ Next Every g))
-        → (member (everyOperands rest (suc n) s) g ≡ true → (y : ℕ) × ((member s (suc n + y) ≡ true) × (getD rest y Truth ≡ Next Every g))) → Found
-    go (inl k) ih =
-        let r : (y : ℕ) × ((member s (suc n + y) ≡ true) × (getD rest y Truth ≡ Next Every g)) = ih k in
-        let e : suc n + r .0 ≡ n + suc (r .0) = omega arith in
-        (suc (r .0), (subst (λ y. member s y ≡ true) e (r .1 .0), r .1 .1))
-    go (inr p) ih = let e : n ≡ n + 0 = omega arith in (0, (subst (λ y. member s y ≡ true) e (p .0), p .1))
 
 -- a goal that unrolled its focus did not move it by step 6
 not-both : (u : ℕ) (g : Goal) (st : Step) → unrolledFocus u (record { goal = g; step = st }) ≡ true → tookRefocus (record { goal = g; step = st }) ≡ false

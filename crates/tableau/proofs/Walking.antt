@@ -1,26 +1,20 @@
 -- A walk keeps a goal that is met, so a closed walk refutes its set on every model; and the steps of a closed tree are all accepted and close the walk.
-use mathlib.Core.Path.{_≡_, refl, sym, ap, subst, _∙_}
+use mathlib.Core.Path.{_≡_, refl, ap, subst, _∙_}
 use mathlib.Core.Bool.{Bool, true, false}
 use mathlib.Core.List.{List, [], _∷_, _++_}
 use Rattle.std.specs.declared.option.Option.{Option}
 use Rattle.std.specs.declared.option.Option.the-variants.{None, Some}
 use mathlib.Core.Logic.{_⊎_, inl, inr}
-use Prim.Native.Nat.{ℕ, suc, _+_, _≤_, _<_}
+use Prim.Native.Nat.{ℕ, suc, _+_, _≤_}
 use lib.ListN.{length}
 use Rattle.std.proofs.shelf.Tests.{le-leb}
 use Rattle.ctl.specs.Model.{Model, Serial}
-use Rattle.ctl.specs.Meaning.{Holds}
-use Rattle.forms.specs.Sets.{member}
 use Rattle.forms.specs.Forms.{Table, WellFormed}
-use Rattle.forms.specs.Meaning.{formula}
-use Rattle.tableau.specs.declared.goals.Focus.{Focus}
 use Rattle.tableau.specs.declared.goals.Focus.the-variants.{Nowhere}
 use Rattle.tableau.specs.declared.goals.Goal.{Goal}
 use Rattle.tableau.specs.declared.goals.Step.{Step}
-use Rattle.tableau.specs.declared.goals.Ancestor.{Ancestor}
 use Rattle.tableau.specs.Steps.{Trail, Outcome, closes, one, two, refused}
 use Rattle.tableau.specs.Rules.{outcome}
-use Rattle.tableau.specs.Allowed.{Rule}
 use Rattle.tableau.specs.declared.goals.Frame.{Frame}
 use Rattle.tableau.specs.Walk.{Walk, underWay, closed, trailOf, start, seconds, waiting, resume, Node, accepted, denied, longestPath, roomBelow, ifRoom, follow, node, Run, done, then}
 use Rattle.tableau.specs.Tree.{Tree, bare, leaf, stem, fork, root, Obeys, ClosesEveryBranch, steps}

@@ -1,18 +1,15 @@
 -- The step rules as a relation: the outcome that a rule allows for a step at a goal below its trail.
 use mathlib.Core.Path.{_≡_}
 use mathlib.Core.Bool.{Bool, true, false, cond, _&&_}
-use mathlib.Core.List.{List, [], _∷_}
-use Rattle.std.specs.declared.option.Option.{Option}
+use mathlib.Core.List.{_∷_}
 use Rattle.std.specs.declared.option.Option.the-variants.{None, Some}
-use Prim.Native.Nat.{ℕ, zero, suc}
-use Rattle.forms.specs.Sets.{member, insert, remove, contained}
+use Prim.Native.Nat.{ℕ, suc}
+use Rattle.forms.specs.Sets.{member, insert, contained}
 use Rattle.forms.specs.declared.form.Quantifier.{Quantifier}
-use Rattle.forms.specs.declared.form.Quantifier.the-variants.{Exists, Every}
-use Rattle.forms.specs.declared.form.Form.{Form}
+use Rattle.forms.specs.declared.form.Quantifier.the-variants.{Exists}
 use Rattle.forms.specs.declared.form.Form.the-variants.{Falsity, Atom, Absent, And, Or, Next, Until, Release}
 use Rattle.forms.specs.Forms.{Table, form}
-use Rattle.tableau.specs.declared.goals.Focus.{Focus}
-use Rattle.tableau.specs.declared.goals.Focus.the-variants.{Nowhere, At, Ahead}
+use Rattle.tableau.specs.declared.goals.Focus.the-variants.{At}
 use Rattle.tableau.specs.declared.goals.Goal.{Goal}
 use Rattle.tableau.specs.declared.goals.Step.{Step}
 use Rattle.tableau.specs.declared.goals.Step.the-variants.{Clash, Absurdity, Split, Choose, Unroll, Refocus, Advance, Repeat}
@@ -21,7 +18,7 @@ use Rattle.forms.specs.declared.refusal.Refusal.{Refusal}
 use Rattle.forms.specs.declared.refusal.Refusal.the-variants.{NotInGoal, DoesNotFit, DoesNotClose}
 use Rattle.tableau.specs.Steps.{Trail, Outcome, closes, one, two}
 use Rattle.tableau.specs.Nexts.{everyOperands}
-use Rattle.tableau.specs.Focus.{firstFocus, secondFocus, focusAfter}
+use Rattle.tableau.specs.Focus.{firstFocus, secondFocus}
 use Rattle.tableau.specs.Ancestors.{tookRefocus, unrolledFocus}
 use Rattle.tableau.specs.Rules.{yield₁, yield₂, successorGoal}
 
@@ -34,6 +31,7 @@ pub data Repeats (u s : ℕ) : ℕ → Trail → Type 0 where
   here : {x : Ancestor} {above : Trail} → unrolledFocus u x ≡ true → contained (x .goal .set) s ≡ true → Repeats u s 1 (x ∷ above)
   higher : {n : ℕ} {x : Ancestor} {above : Trail} → tookRefocus x ≡ false → Repeats u s (suc n) above → Repeats u s (suc (suc n)) (x ∷ above)
 
+-- The steps that a goal may take, by their numbers, with what each comes to.
 pub data Rule (T : Table) (trail : Trail) (g : Goal) : Step → Outcome → Type 0 where
   -- 1: an atom and its absence
   by-clash : {a b p : ℕ} → In g a → In g b → form T a ≡ Atom p → form T b ≡ Absent p → Rule T trail g (Clash a b) closes

@@ -22,6 +22,7 @@ firstFocus a f = cond (focusedAt a f) Nowhere f
 abbrev pub secondFocus : (a b : ℕ) → Focus → Focus
 secondFocus a b f = cond (focusedAt a f) (Ahead b a) f
 
+-- whether step 7 names x
 abbrev pub names : Option ℕ → ℕ → Bool
 names None x = false
 names (Some a) x = eqb a x

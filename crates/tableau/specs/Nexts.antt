@@ -22,6 +22,7 @@ isEvery (Or i j) = false
 isEvery (Until q i j) = false
 isEvery (Release q i j) = false
 
+-- whether the quantifiers are the same
 abbrev pub sameQuantifier : Quantifier → Quantifier → Bool
 sameQuantifier Exists Exists = true
 sameQuantifier Exists Every = false

@@ -33,8 +33,11 @@ yield₁ set a i f = record { set = insert (remove set a) i; focus = f }
 abbrev pub yield₂ : (set a i j : ℕ) → Focus → Goal
 yield₂ set a i j f = record { set = insert (insert (remove set a) i) j; focus = f }
 
+-- a form that does not fit the step
 abbrev pub unfit : Outcome
 unfit = refused DoesNotFit
+
+-- Each step on the forms x and y that it names, which are in the goal with the set s and the focus f.
 
 abbrev pub onClash : (x y : Form) → Outcome
 onClash x y = elim x [

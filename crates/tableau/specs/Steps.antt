@@ -12,10 +12,11 @@ use Rattle.tableau.specs.declared.goals.Step.{Step}
 use Rattle.tableau.specs.declared.goals.Step.the-variants.{Clash, Absurdity, Split, Choose, Unroll, Refocus, Advance, Repeat}
 use Rattle.tableau.specs.declared.goals.Ancestor.{Ancestor}
 
--- the goals from the parent of the present goal up to the root, nearest first
+-- the trail of a goal: its ancestors from the parent up to the root, with their steps
 abbrev pub Trail : Type 0
 Trail = List Ancestor
 
+-- what a step comes to: it closes the goal, yields one child or two, or is refused
 pub data Outcome : Type 0 where
   closes : Outcome
   one : Goal → Outcome

@@ -1,13 +1,11 @@
 -- Trees of goals, what it is for one to obey the rules and close every branch, and its steps in order.
-use mathlib.Core.Path.{_≡_}
 use mathlib.Core.List.{List, [], _∷_, _++_}
-use Prim.Native.Nat.{ℕ, suc, _+_, _≤_}
+use Prim.Native.Nat.{_+_, _≤_}
 use lib.ListN.{length}
 use Rattle.forms.specs.Forms.{Table}
 use Rattle.tableau.specs.declared.goals.Goal.{Goal}
 use Rattle.tableau.specs.declared.goals.Step.{Step}
-use Rattle.tableau.specs.declared.goals.Ancestor.{Ancestor}
-use Rattle.tableau.specs.Steps.{Trail, Outcome, closes, one, two}
+use Rattle.tableau.specs.Steps.{Trail, closes, one, two}
 use Rattle.tableau.specs.Allowed.{Rule}
 use Rattle.tableau.specs.Walk.{longestPath}
 
@@ -18,6 +16,7 @@ pub data Tree : Type 0 where
   stem : Goal → Step → Tree → Tree
   fork : Goal → Step → (first second : Tree) → Tree
 
+-- the goal at the top
 abbrev pub root : Tree → Goal
 root (bare g) = g
 root (leaf g st) = g

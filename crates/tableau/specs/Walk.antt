@@ -2,27 +2,26 @@
 use mathlib.Core.Path.{_≡_}
 use mathlib.Core.Bool.{Bool, true, false}
 use mathlib.Core.List.{List, [], _∷_}
-use Rattle.std.specs.declared.option.Option.{Option}
 use Rattle.std.specs.declared.option.Option.the-variants.{None, Some}
-use Prim.Native.Nat.{ℕ, suc, _+_}
+use Prim.Native.Nat.{ℕ, _+_}
 use lib.Dec.{leb}
 use lib.ListN.{length}
 use Rattle.forms.specs.Forms.{Table}
-use Rattle.tableau.specs.declared.goals.Focus.{Focus}
 use Rattle.tableau.specs.declared.goals.Focus.the-variants.{Nowhere}
 use Rattle.tableau.specs.declared.goals.Goal.{Goal}
 use Rattle.tableau.specs.declared.goals.Step.{Step}
-use Rattle.tableau.specs.declared.goals.Ancestor.{Ancestor}
 use Rattle.forms.specs.declared.refusal.Refusal.{Refusal}
 use Rattle.forms.specs.declared.refusal.Refusal.the-variants.{NoSuchStep, WalkClosed, PathTooLong}
 use Rattle.tableau.specs.declared.goals.Frame.{Frame}
 use Rattle.tableau.specs.Steps.{Trail, Outcome, closes, one, two, refused, stepOf}
 use Rattle.tableau.specs.Rules.{outcome}
 
+-- under way at the present goal, below its frames, nearest first; closed when no goal waits
 pub data Walk : Type 0 where
   underWay : (present : Goal) (frames : List Frame) → Walk
   closed : Walk
 
+-- the trail that the frames keep
 abbrev pub trailOf : List Frame → Trail
 trailOf [] = []
 trailOf (x ∷ frames) = x .ancestor ∷ trailOf frames
@@ -31,6 +30,7 @@ trailOf (x ∷ frames) = x .ancestor ∷ trailOf frames
 abbrev pub start : ℕ → Walk
 start set = underWay (record { set = set; focus = Nowhere }) []
 
+-- the second children that wait
 abbrev pub seconds : List Frame → List Goal
 seconds [] = []
 seconds (x ∷ frames) = elim (x .second) [ None ↦ seconds frames | Some g ↦ g ∷ seconds frames ]
@@ -45,6 +45,7 @@ abbrev pub resume : List Frame → Walk
 resume [] = closed
 resume (x ∷ frames) = elim (x .second) [ None ↦ resume frames | Some g ↦ underWay g (record { ancestor = x .ancestor; second = None } ∷ frames) ]
 
+-- a step is taken, and then the walk is so; or it is denied
 pub data Node : Type 0 where
   accepted : Walk → Node
   denied : Refusal → Node
@@ -57,10 +58,12 @@ longestPath = 256
 abbrev pub roomBelow : List Frame → Bool
 roomBelow frames = leb (length frames + 2) longestPath
 
+-- a walk on, where the path has room
 abbrev pub ifRoom : Bool → Walk → Node
 ifRoom true walk = accepted walk
 ifRoom false walk = denied PathTooLong
 
+-- the walk after what a step came to
 abbrev pub follow : Goal → Step → List Frame → Outcome → Node
 follow g step frames closes = accepted (resume frames)
 follow g step frames (one c) = ifRoom (roomBelow frames) (underWay c (record { ancestor = record { goal = g; step = step }; second = None } ∷ frames))

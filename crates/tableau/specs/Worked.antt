@@ -22,6 +22,7 @@ unfoldable pub replies : Table → List (ℕ × ℕ × ℕ) → Walk → List (R
 replies T [] walk = []
 replies T (st ∷ sts) walk = onNode walk (nodeBytes T walk (st .0) (st .1) (st .2)) (replies T sts)
 
+-- form 4 is A(0 U 2), form 5 is E(1 R 3), and forms 6 and 7 are their next forms
 unfoldable pub table : Table
 table = Truth ∷ Falsity ∷ Atom 0 ∷ Absent 0 ∷ Until Every 0 2 ∷ Release Exists 1 3 ∷ Next Every 4 ∷ Next Exists 5 ∷ []
 

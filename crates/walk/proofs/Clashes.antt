@@ -1,15 +1,13 @@
 -- What step 1 answers where its two forms are in the goal.
-use mathlib.Core.Path.{_≡_, sym, ap, ap₂, _∙_}
+use mathlib.Core.Path.{_≡_, ap₂, _∙_}
 use mathlib.Core.Bool.{Bool, true, false, cond, _&&_}
-use Rattle.std.specs.declared.option.Option.{Option}
 use Rattle.std.specs.declared.result.Result.{Result}
 use Rattle.std.specs.declared.result.Result.the-variants.{Ok, Err}
 use Rattle.forms.specs.declared.form.Form.{Form}
 use Rattle.forms.specs.declared.refusal.Refusal.{Refusal}
-use Rattle.forms.specs.declared.refusal.Refusal.the-variants.{NotInGoal, DoesNotFit}
-use Rattle.tableau.specs.Steps.{Outcome, closes, refused}
+use Rattle.forms.specs.declared.refusal.Refusal.the-variants.{NotInGoal}
+use Rattle.tableau.specs.Steps.{Outcome}
 use Rattle.tableau.specs.Rules.{given, onClash}
-use Rattle.walk.specs.Answers.{answer}
 use Prim.Native.Nat.{ℕ}
 use native.Mathlib.Omega.{arith}
 

@@ -1,7 +1,7 @@
 -- The frames of a path from its last one up: the nearest second child that waits, and how many wait.
-use mathlib.Core.Path.{_≡_, refl, sym, ap, _∙_}
+use mathlib.Core.Path.{_≡_, sym, ap, _∙_}
 use mathlib.Core.List.{List, [], _∷_, _++_, reverse}
-use Prim.Native.Nat.{ℕ, zero, suc, _+_, _<_}
+use Prim.Native.Nat.{ℕ, _+_, _<_}
 use native.Mathlib.Omega.{arith}
 use lib.ListN.{length, getD, take}
 use Rattle.std.specs.Vec.{listOf}
@@ -10,7 +10,7 @@ use Rattle.std.specs.declared.option.Option.the-variants.{None, Some}
 use Rattle.std.proofs.shelf.Lists.{reverse-append, take-more}
 use Rattle.tableau.specs.declared.goals.Goal.{Goal}
 use Rattle.tableau.specs.declared.goals.Frame.{Frame}
-use Rattle.tableau.specs.Walk.{Walk, underWay, resume, seconds}
+use Rattle.tableau.specs.Walk.{underWay, resume, seconds}
 use Rattle.walk.proofs.Above.{blank}
 
 -- the frame, with another second child

@@ -1,6 +1,5 @@
 -- A step that yields children: the walk goes down to the first, or the path is too long.
-use mathlib.Core.Path.{_≡_, refl, sym, ap, ap₂, _∙_}
-use mathlib.Core.Bool.{Bool, true, false}
+use mathlib.Core.Path.{_≡_, sym, ap, _∙_}
 use mathlib.Core.List.{List, [], _∷_, _++_, reverse}
 use Prim.Native.Nat.{ℕ, _+_, _<_, _≤_}
 use native.Mathlib.Omega.{arith}
@@ -10,7 +9,7 @@ use Rattle.std.proofs.shelf.Lists.{length-reverse, reverse-append}
 use Rattle.std.specs.declared.option.Option.{Option}
 use Rattle.std.specs.declared.option.Option.the-variants.{None, Some}
 use Rattle.std.specs.declared.result.Result.{Result}
-use Rattle.std.specs.declared.result.Result.the-variants.{Ok, Err}
+use Rattle.std.specs.declared.result.Result.the-variants.{Ok}
 use Rattle.forms.specs.declared.refusal.Refusal.{Refusal}
 use Rattle.forms.specs.declared.refusal.Refusal.the-variants.{PathTooLong}
 use Rattle.tableau.specs.declared.goals.Goal.{Goal}
@@ -18,7 +17,7 @@ use Rattle.tableau.specs.declared.goals.Step.{Step}
 use Rattle.tableau.specs.declared.goals.Frame.{Frame}
 use Rattle.tableau.specs.Steps.{Outcome, closes, one, two, refused}
 use Rattle.walk.specs.Answers.{answer}
-use Rattle.tableau.specs.Walk.{Walk, underWay, Node, accepted, denied, roomBelow, ifRoom, follow}
+use Rattle.tableau.specs.Walk.{underWay, accepted, denied, roomBelow, ifRoom, follow}
 
 abbrev Answer : Type 0
 Answer = Result (Option (Goal × Option Goal)) Refusal

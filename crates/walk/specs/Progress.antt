@@ -1,10 +1,7 @@
 -- A walk as a register has it: absent, under way or closed; and what a step does to it.
-use mathlib.Core.Path.{_≡_}
-use mathlib.Core.List.{List, [], _∷_, reverse}
+use mathlib.Core.List.{List, [], reverse}
 use Prim.Native.Nat.{ℕ}
 use lib.ListN.{length}
-use Rattle.std.specs.declared.option.Option.{Option}
-use Rattle.std.specs.declared.option.Option.the-variants.{None, Some}
 use Rattle.std.specs.declared.result.Result.{Result}
 use Rattle.std.specs.declared.result.Result.the-variants.{Ok, Err}
 use Rattle.forms.specs.declared.refusal.Refusal.{Refusal}
@@ -26,11 +23,6 @@ abbrev pub seen : Phase → List Frame → Progress
 seen Absent path = absent
 seen (UnderWay root goal) path = present root (underWay goal (reverse path))
 seen (Closed root) path = present root closed
-
--- the walk at the goal that is next, if one is
-abbrev pub walkAt : Option Goal → List Frame → Walk
-walkAt None path = closed
-walkAt (Some goal) path = underWay goal (reverse path)
 
 abbrev pub ofNode : ℕ → Node → Result Progress Refusal
 ofNode root (accepted walk) = Ok (present root walk)
@@ -70,13 +62,3 @@ reply (Err r) = Err r
 abbrev pub next : Progress → Result Progress Refusal → Progress
 next before (Ok after) = after
 next before (Err r) = before
-
--- what a step at the present goal came to: the goal that is next and the path above it, or a refusal
-abbrev pub nodeOf : Result (Option Goal) Refusal → List Frame → Node
-nodeOf (Ok goal) path = accepted (walkAt goal path)
-nodeOf (Err r) path = denied r
-
--- a refusal leaves the path
-abbrev pub KeptIfRefused : Result (Option Goal) Refusal → (before after : List Frame) → Type 0
-KeptIfRefused (Ok goal) before after = Unit {0}
-KeptIfRefused (Err r) before after = after ≡ before

@@ -53,7 +53,6 @@ fn advance_by(table: &Table, goal: Goal, a: u8) -> Result<Children, Refusal>
             let focus = advanced(table, Some(a), goal.focus);
             Ok(Some((Goal { set, focus }, None)))
         }
-        Form::Next(Quantifier::Every, _) => Err(Refusal::DoesNotFit),
         _ => Err(Refusal::DoesNotFit),
     }
 }

@@ -6,7 +6,7 @@ ghost use lib.ListN.{length};
 ghost use Rattle.std.specs.Vec.{listOf};
 ghost use Rattle.std.specs.Of.Vec.{vec-items, vec-len, vec-cap};
 ghost use Rattle.tableau.specs.Walk.{resume as resumed, seconds};
-ghost use Rattle.walk.specs.Progress.{walkAt};
+ghost use Rattle.walk.specs.Path.{walkAt};
 use tableau::Frame;
 use tableau::Goal;
 

@@ -5,7 +5,7 @@ ghost use Prim.Native.Nat.{_≤_};
 ghost use Rattle.std.specs.Of.Vec.{vec-items, vec-len, vec-cap};
 ghost use Rattle.forms.specs.Tables.{formsOf};
 ghost use Rattle.tableau.specs.Walk.{underWay, node as nodeAt};
-ghost use Rattle.walk.specs.Progress.{nodeOf, KeptIfRefused};
+ghost use Rattle.walk.specs.Path.{nodeOf, KeptIfRefused};
 use crate::frames::resume;
 use crate::outcome::take_step;
 use forms::Refusal;

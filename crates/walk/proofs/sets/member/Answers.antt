@@ -4,7 +4,6 @@ use Prim.Native.Nat.{ℕ, _/_, _^_}
 use lib.Dec.{eqb, ltb}
 use Rattle.std.proofs.shelf.Bits.{and-mask}
 use Rattle.std.proofs.shelf.Tests.{le-ltb, both-ways}
-use Rattle.forms.specs.Sets.{member}
 use Rattle.tableau.proofs.SetLaws.{member-above}
 use Rattle.walk.proofs.sets.member.Needs as need
 
