@@ -1,3 +1,4 @@
+pub mod Accepting
 pub mod Formed
 mod Joining
 pub mod Numbering

@@ -26,15 +26,17 @@ abbrev pub given : {X : Type 0} → Bool → Refusal → Result X Refusal → Re
 given true why result = result
 given false why result = Err why
 
--- the form of a kind, if a table of n forms takes it, or else the first reason why not
+-- a form, if a table of n forms takes it, or else the first reason why not
+abbrev pub taking : ℕ → Option Form → Result Form Refusal
+taking n None = Err KindAbove11
+taking n (Some form) =
+    given (atomFits form) AtomAbove31
+    (given (operandsBelow n form) OperandNotEarlier
+    (given (ltb n mostForms) TableFull (Ok form)))
+
+-- the same of the form of a kind
 abbrev pub accepted : (n kind a b : ℕ) → Result Form Refusal
-accepted n kind a b = elim (formOf kind a b) [
-  | None ↦ Err KindAbove11
-  | Some form ↦
-      given (atomFits form) AtomAbove31
-      (given (operandsBelow n form) OperandNotEarlier
-      (given (ltb n mostForms) TableFull (Ok form)))
-]
+accepted n kind a b = taking n (formOf kind a b)
 
 -- an accepted form has the next number, and joins at the end; a refusal leaves the table
 abbrev pub numbered : List Form → Result Form Refusal → Result ℕ Refusal

@@ -2,7 +2,7 @@
 use mathlib.Core.Path.{_≡_, refl, sym, ap, ap₂, subst, _∙_}
 use mathlib.Core.Bool.{Bool, true, false, cond, _&&_, _||_}
 use mathlib.Core.List.{List}
-use mathlib.Core.Logic.{_⊎_, ⊎-elim}
+use mathlib.Core.Logic.{_↔_, _⊎_, ⊎-elim}
 use Prim.Native.Nat.{ℕ, zero, suc, _+_, _*_, _^_, _<_, _≤_}
 use native.Mathlib.Nat.{pow-suc, le-refl}
 use native.Mathlib.Numerals.{add-one}
@@ -13,6 +13,7 @@ use Rattle.std.specs.declared.option.Option.the-variants.{Some, None}
 use Rattle.std.proofs.shelf.Tests.{both-ways, cases-lt, lt-ltb}
 use Rattle.ctl.specs.Model.{Model, Serial}
 use Rattle.ctl.specs.Rounds.{Subset, Same, Monotone, start, limit}
+use Rattle.ctl.specs.Meaning.{Holds}
 use Rattle.ctl.specs.Truth.{some-successor, all-successors, truth, form-rounds}
 use Rattle.ctl.proofs.Search.{below-suc}
 use Rattle.ctl.proofs.Rounds.{same-round, iterate-agrees, rounds-agree}
@@ -145,13 +146,19 @@ unfolding roundsBelow
 rounds-few T m few zero = omega arith
 rounds-few T m few (suc f) = omega (arith, rounds-few T m few f, rounds-bounded m (formula T f))
 
-pub marks-tell : (T : Table) (m : Model) → Serial m → (marks : List ℕ) → ((t : ℕ) → t < m .count → getD marks t 0 ≡ mark T m t) → Marks-tell T m marks
+-- bit f of the mark of t is set exactly where form f is of the table and holds at t, by the paths
+pub mark-tells : (T : Table) (m : Model) → Serial m → (t : ℕ) → t < m .count → (f : ℕ) → (member (mark T m t) f ≡ true) ↔ ((f < length T) × Holds m (formula T f) t)
 unfolding mark
-marks-tell T m total marks at t l f =
+mark-tells T m serial t l f =
     let w = markBelow (length T) T m t in
-    let tells = truth-holds m total (formula T f) t l in (
-      λ e. let e′ : member w f ≡ true = ap (λ (v : ℕ). member v f) (sym (at t l)) ∙ e in
-          let below : f < length T = ⊎-elim (λ h. h) (λ h. absurd (both-ways (member w f) (none-above (length T) w f (mark-fits T m t (length T)) h) e′)) (cases-lt f (length T)) in
-          (below, tells .0 (sym (mark-has T m t (length T) f below) ∙ e′)),
-      λ p. ap (λ (v : ℕ). member v f) (at t l) ∙ mark-has T m t (length T) f (p .0) ∙ tells .1 (p .1),
+    let tells = truth-holds m serial (formula T f) t l in (
+      λ e. let below : f < length T = ⊎-elim (λ h. h) (λ h. absurd (both-ways (member w f) (none-above (length T) w f (mark-fits T m t (length T)) h) e)) (cases-lt f (length T)) in
+          (below, tells .0 (sym (mark-has T m t (length T) f below) ∙ e)),
+      λ p. mark-has T m t (length T) f (p .0) ∙ tells .1 (p .1),
     )
+
+pub marks-tell : (T : Table) (m : Model) → Serial m → (marks : List ℕ) → ((t : ℕ) → t < m .count → getD marks t 0 ≡ mark T m t) → Marks-tell T m marks
+marks-tell T m serial marks at t l f =
+    let tells = mark-tells T m serial t l f in
+    let same = ap (λ (v : ℕ). member v f) (at t l) in
+    ((λ e. tells .0 (sym same ∙ e)), λ p. same ∙ tells .1 p)

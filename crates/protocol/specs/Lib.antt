@@ -3,3 +3,4 @@ pub mod Bodies
 pub mod Calls
 pub mod Runs
 pub mod Promises
+pub mod Invariant

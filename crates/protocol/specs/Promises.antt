@@ -1,13 +1,16 @@
 -- What the register promises of every run.
 use mathlib.Core.Path.{_≡_}
 use mathlib.Core.List.{List, [], _∷_, _++_}
-use mathlib.Core.Logic.{_⊎_}
+use mathlib.Core.Bool.{true}
+use mathlib.Core.Logic.{_⊎_, _↔_}
 use Rattle.std.specs.declared.option.Option.the-variants.{None, Some}
-use Prim.Native.Nat.{ℕ, zero, suc, _^_, _<_}
+use Prim.Native.Nat.{ℕ, zero, suc, _<_}
 use lib.ListN.{length}
 use Rattle.ctl.specs.Model.{Model, Serial}
+use Rattle.ctl.specs.Meaning.{Holds}
 use Rattle.forms.specs.Forms.{Table}
-use Rattle.forms.specs.Meaning.{SetHolds}
+use Rattle.forms.specs.Meaning.{formula, SetHolds}
+use Rattle.forms.specs.Sets.{member, within}
 use Rattle.machine.specs.Interface.{Sound}
 use Rattle.tableau.specs.declared.goals.Focus.the-variants.{Nowhere}
 use Rattle.tableau.specs.declared.goals.Step.{Step}
@@ -18,7 +21,7 @@ use Rattle.protocol.specs.declared.book.Standing.{Standing}
 use Rattle.protocol.specs.declared.book.Standing.the-variants.{Impossible, Possible}
 use Rattle.protocol.specs.declared.book.Line.{Line}
 use Rattle.protocol.specs.State.{Book, State, mostLines, standing}
-use Rattle.protocol.specs.Calls.{Call, form, openAt, node, enter, abandon, show, strike, clear, load, ok, answer, after}
+use Rattle.protocol.specs.Calls.{Call, form, openAt, node, enter, abandon, show, strike, clear, load, held, ok, answer, after}
 use Rattle.protocol.specs.Runs.{Lawful, AllLawful, AllAccepted, Accepted, from, reached, history, brought}
 
 -- the set stands so in the register
@@ -32,6 +35,12 @@ HoldsNowhere T set = (m : Model) → Serial m → (t : ℕ) → SetHolds T m set
 -- some state of a machine that the interface can show holds it
 abbrev pub HoldsSomewhere : Table → ℕ → Type 0
 HoldsSomewhere T set = (m : Model) × (Sound m × ((t : ℕ) × SetHolds T m set t))
+
+-- the held part of a set has those of its forms that hold at the state
+abbrev pub Held-tells : Type 0
+Held-tells =
+    (T : Table) (m : Model) → Serial m → (set t : ℕ) → t < m .count → (f : ℕ)
+    → (member (held T m set t) f ≡ true) ↔ ((member set f ≡ true) × (f < length T) × Holds m (formula T f) t)
 
 -- the book has the line at place n
 pub data LineAt (line : Line) : ℕ → Book → Type 0 where
@@ -64,7 +73,7 @@ whole set nodes = openAt set ∷ (nodes ++ enter ∷ [])
 
 -- a tree whose root goal has this set of table forms and no focus, which obeys the step rules, has no path above 256 goals, and closes every branch
 pub record Refutation (T : Table) (set : ℕ) (tree : Tree) : Type 0 where
-  pub inTable : set < 2 ^ length T
+  pub inTable : within T set ≡ true
   pub rooted : root tree ≡ record { set = set; focus = Nowhere }
   pub obeys : Obeys T [] tree
   pub closes : ClosesEveryBranch tree

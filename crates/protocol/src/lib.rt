@@ -1,9 +1,9 @@
 // What the register's calls mean, and what is promised of every run of them (mathematics).
 pub mod book;
 
-ghost use Rattle.protocol.specs.Promises.{Promises};
+ghost use Rattle.protocol.specs.Promises.{Promises, Held-tells};
 
-// What the register promises of every run of its calls. It does nothing.
+// What the register promises of every run of its calls, and what the held part of a show tells. It does nothing.
 pub fn promises_kept()
-    ensures { λ _. ⌜ Promises ⌝ }
+    ensures { λ _. ⌜ Promises ⌝ ∗ ⌜ Held-tells ⌝ }
 {}

@@ -78,6 +78,10 @@ inserted s f g e = go (or-cases (member s g) (eqb f g) (sym (member-insert s f g
 pub kept : (s f g : ℕ) → member (remove s f) g ≡ true → member s g ≡ true
 kept s f g e = and-parts (member s g) (not (eqb f g)) (sym (member-remove s f g) ∙ e) .0
 
+pub member-and : (r s f : ℕ) → member (bitAnd r s) f ≡ (member r f && member s f)
+unfolding bit
+member-and r s f = ap bit (and-shr r s f) ∙ bit-and (r / 2 ^ f) (s / 2 ^ f)
+
 pub member-contained : (r s f : ℕ) → contained r s ≡ true → member r f ≡ true → member s f ≡ true
 unfolding contained bit
 member-contained r s f c e =
