@@ -57,6 +57,7 @@ Marks-tell T m marks = (t : ℕ) → t < m .count → (f : ℕ) → (member (get
 -- a labelling that took so many rounds, with the lent buffers before and after it
 pub record Labelled (T : Table) (m : Model) (taken : ℕ) (marks marks′ scratch scratch′ : List ℕ) : Type 0 where
   pub tells : Marks-tell T m marks′
+  pub each : (t : ℕ) → t < m .count → getD marks′ t 0 ≡ mark T m t
   pub marks-are : marks′ ≡ marksAfter T m marks
   pub scratch-is : scratch′ ≡ scratchAfter m scratch
   pub counted : taken ≡ roundsOf T m

@@ -10,8 +10,8 @@ use native.Mathlib.Omega.{arith}
 use lib.Dec.{eqb}
 use lib.ListN.{length}
 use Rattle.std.proofs.shelf.Tests.{eqb-true, eqb-false, eq-eqb, ne-eqb}
-use Rattle.protocol.specs.declared.book.Standing.{Standing}
-use Rattle.protocol.specs.declared.book.Line.{Line}
+use Rattle.protocol.specs.declared.line.Standing.{Standing}
+use Rattle.protocol.specs.declared.line.Line.{Line}
 use Rattle.protocol.specs.State.{Book, standing, without}
 use Rattle.protocol.specs.Promises.{LineAt, first, later, InBook}
 use Rattle.protocol.specs.Invariant.{All, Distinct}

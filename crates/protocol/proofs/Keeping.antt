@@ -23,9 +23,9 @@ use Rattle.tableau.specs.Walk.{start, Run}
 use Rattle.tableau.proofs.Walking.{run-append, closed-walk-refutes}
 use Rattle.tableau.proofs.Grow.{run-grows}
 use Rattle.walk.specs.Progress.{Progress, absent, present}
-use Rattle.protocol.specs.declared.book.Standing.{Standing}
-use Rattle.protocol.specs.declared.book.Standing.the-variants.{Impossible, Possible}
-use Rattle.protocol.specs.declared.book.Line.{Line}
+use Rattle.protocol.specs.declared.line.Standing.{Standing}
+use Rattle.protocol.specs.declared.line.Standing.the-variants.{Impossible, Possible}
+use Rattle.protocol.specs.declared.line.Line.{Line}
 use Rattle.protocol.specs.State.{State, made, mostLines, standing, withTable, withBook, withWalk, withLine, without}
 use Rattle.protocol.specs.Bodies.{Body, formsBody, treeBody, records, setOf, stepsOf}
 use Rattle.protocol.specs.Calls.{Call, form, openAt, node, enter, abandon, show, strike, clear, load, Outcome, onForm, onOpen, onNode, onEnter, onShow, loadForms, loadTree, onLoad, outcome, after}

@@ -1,6 +1,6 @@
 -- The promises hold of every run.
 use mathlib.Core.List.{List, [], _∷_}
-use Rattle.protocol.specs.declared.book.Standing.the-variants.{Impossible, Possible}
+use Rattle.protocol.specs.declared.line.Standing.the-variants.{Impossible, Possible}
 use Rattle.protocol.specs.State.{State, made}
 use Rattle.protocol.specs.Calls.{Call, after}
 use Rattle.protocol.specs.Runs.{AllLawful, from, reached}

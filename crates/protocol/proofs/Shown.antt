@@ -13,8 +13,8 @@ use Rattle.forms.specs.declared.refusal.Refusal.the-variants.{SetBeyondTable, S
 use Rattle.forms.specs.Meaning.{SetHolds}
 use Rattle.forms.specs.Sets.{within}
 use Rattle.label.specs.Show.{roundsOf}
-use Rattle.protocol.specs.declared.book.Standing.{Standing}
-use Rattle.protocol.specs.declared.book.Standing.the-variants.{Impossible, Possible}
+use Rattle.protocol.specs.declared.line.Standing.{Standing}
+use Rattle.protocol.specs.declared.line.Standing.the-variants.{Impossible, Possible}
 use Rattle.protocol.specs.State.{State, mostLines, standing, isFree, withLine}
 use Rattle.protocol.specs.Calls.{show, Outcome, taken, given, held, shown, onShow, Answer, ok, refused, answer, after, stateOf, answerOf}
 use Rattle.protocol.specs.Runs.{Accepted}

@@ -22,9 +22,9 @@ use Rattle.tableau.specs.Steps.{stepOf}
 use Rattle.tableau.specs.Walk as Walk
 use Rattle.tableau.specs.Walk.{Walk, start}
 use Rattle.walk.specs.Progress.{Progress, absent, present, ofNode, opened, stepped, abandoned, finished}
-use Rattle.protocol.specs.declared.book.Standing.{Standing}
-use Rattle.protocol.specs.declared.book.Standing.the-variants.{Impossible, Possible}
-use Rattle.protocol.specs.declared.book.Line.{Line}
+use Rattle.protocol.specs.declared.line.Standing.{Standing}
+use Rattle.protocol.specs.declared.line.Standing.the-variants.{Impossible, Possible}
+use Rattle.protocol.specs.declared.line.Line.{Line}
 use Rattle.protocol.specs.State.{State, mostLines, standing, isFree, withTable, withBook, withWalk, withLine, without}
 use Rattle.protocol.specs.Bodies.{Record}
 use Rattle.protocol.specs.Calls.{formed, onForm, walked, onOpen, onNode, entered, onEnter, onAbandon, held, onShow, onStrike, formOn, nodeOn, countForms, loadForms, loadTree, inTurn}

@@ -20,7 +20,7 @@ use Rattle.tableau.specs.Tree.{Tree, steps}
 use Rattle.tableau.proofs.Bytes.{tree-in-bytes}
 use Rattle.tableau.proofs.Walking.{tree-taken}
 use Rattle.walk.specs.Progress.{absent, present, ofNode, opened}
-use Rattle.protocol.specs.declared.book.Standing.the-variants.{Impossible}
+use Rattle.protocol.specs.declared.line.Standing.the-variants.{Impossible}
 use Rattle.protocol.specs.State.{State, mostLines, standing, isFree, withWalk, withLine}
 use Rattle.protocol.specs.Calls as Calls
 use Rattle.protocol.specs.Calls.{Call, openAt, node, enter, taken, given, walked, outcome, answerOf, stateOf}

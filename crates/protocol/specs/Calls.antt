@@ -16,7 +16,7 @@ use Rattle.forms.specs.Sets.{within}
 use Rattle.forms.specs.Tables.{accepted}
 use Rattle.label.specs.Show.{mark, roundsOf}
 use Rattle.walk.specs.Progress.{Progress, absent, opened, stepped, abandoned, finished, waitingIn}
-use Rattle.protocol.specs.declared.book.Standing.the-variants.{Impossible, Possible}
+use Rattle.protocol.specs.declared.line.Standing.the-variants.{Impossible, Possible}
 use Rattle.protocol.specs.State.{State, made, mostLines, standing, isFree, withTable, withBook, withWalk, withLine, without}
 use Rattle.protocol.specs.Bodies.{Body, formsBody, treeBody, Record, records, setOf, stepsOf, formsLength, treeLength}
 

@@ -10,9 +10,9 @@ use Rattle.forms.specs.Sets.{within}
 use Rattle.tableau.specs.declared.goals.Step.{Step}
 use Rattle.tableau.specs.Walk.{start, Run}
 use Rattle.walk.specs.Progress.{Progress, absent, present}
-use Rattle.protocol.specs.declared.book.Standing.{Standing}
-use Rattle.protocol.specs.declared.book.Standing.the-variants.{Impossible, Possible}
-use Rattle.protocol.specs.declared.book.Line.{Line}
+use Rattle.protocol.specs.declared.line.Standing.{Standing}
+use Rattle.protocol.specs.declared.line.Standing.the-variants.{Impossible, Possible}
+use Rattle.protocol.specs.declared.line.Line.{Line}
 use Rattle.protocol.specs.State.{Book, State, mostLines, standing}
 use Rattle.protocol.specs.Promises.{HoldsNowhere, HoldsSomewhere}
 

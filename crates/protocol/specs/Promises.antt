@@ -17,9 +17,9 @@ use Rattle.tableau.specs.declared.goals.Step.{Step}
 use Rattle.tableau.specs.Steps.{stepOf}
 use Rattle.tableau.specs.Tree.{Tree, root, Obeys, ClosesEveryBranch, steps}
 use Rattle.walk.specs.Progress.{absent}
-use Rattle.protocol.specs.declared.book.Standing.{Standing}
-use Rattle.protocol.specs.declared.book.Standing.the-variants.{Impossible, Possible}
-use Rattle.protocol.specs.declared.book.Line.{Line}
+use Rattle.protocol.specs.declared.line.Standing.{Standing}
+use Rattle.protocol.specs.declared.line.Standing.the-variants.{Impossible, Possible}
+use Rattle.protocol.specs.declared.line.Line.{Line}
 use Rattle.protocol.specs.State.{Book, State, mostLines, standing}
 use Rattle.protocol.specs.Calls.{Call, form, openAt, node, enter, abandon, show, strike, clear, load, held, ok, answer, after}
 use Rattle.protocol.specs.Runs.{Lawful, AllLawful, AllAccepted, Accepted, from, reached, history, brought}

@@ -8,8 +8,8 @@ use Rattle.std.specs.declared.option.Option.{Option}
 use Rattle.std.specs.declared.option.Option.the-variants.{None, Some}
 use Rattle.forms.specs.Forms.{Table}
 use Rattle.walk.specs.Progress.{Progress, absent}
-use Rattle.protocol.specs.declared.book.Standing.{Standing}
-use Rattle.protocol.specs.declared.book.Line.{Line}
+use Rattle.protocol.specs.declared.line.Standing.{Standing}
+use Rattle.protocol.specs.declared.line.Line.{Line}
 
 -- lines in the order in which they came
 abbrev pub Book : Type 0

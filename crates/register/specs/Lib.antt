@@ -1,3 +1,3 @@
-pub mod State
-pub mod Calls
+pub mod Books
 pub mod View
+pub mod Answers

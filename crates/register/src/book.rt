@@ -1,15 +1,12 @@
-// How sets of forms stand.
+// The book: up to 64 lines, each a set of forms and how it stands.
+ghost use Prim.Native.Nat.{_≤_};
+ghost use Rattle.std.specs.Of.Vec.{vec-len, vec-cap};
+use protocol::Line;
 
-// What is known of a set: no state of any machine holds it, or some state of some machine does.
-#[derive(Clone, Copy)]
-pub enum Standing {
-    Impossible,
-    Possible,
-}
-
-// A line of the book: a set, bit f for form f, and how it stands.
-#[derive(Clone, Copy)]
-pub struct Line {
-    pub set: u64,
-    pub standing: Standing,
+// The lines in the order in which they came. Room for all of them is had at the making.
+#[derive(Drop)]
+pub struct Book {
+    pub(crate) lines: Vec<Line>,
+    ghost short: { vec-len lines ≤ 64 },
+    ghost room: { 64 ≤ vec-cap lines },
 }

@@ -1,21 +1,32 @@
-// The calls of the register.
+// The calls of the register: forms and lines.
 ghost use mathlib.Core.Path.{_≡_};
-ghost use Rattle.register.specs.State.{made, standing as standingIn};
-ghost use Rattle.register.specs.Calls.{form as formCall, clear as clearCall, answer as answerTo, after as stateAfter, told};
+ghost use Rattle.std.specs.Vec.{made as whereMade};
+ghost use Rattle.protocol.specs.State.{made, standing as standingIn};
+ghost use Rattle.protocol.specs.Calls.{form as formCall, strike as strikeCall, clear as clearCall, answer as answerTo, after as stateAfter};
+ghost use Rattle.protocol.specs.Promises.{Promises};
 ghost use Rattle.register.specs.View.{view};
-use crate::book::Standing;
+ghost use Rattle.register.specs.Answers.{told, Truly};
+use crate::book::Book;
 use crate::register::Register;
 use forms::Refusal;
 use forms::Table;
+use protocol::Standing;
+use std::alloc::AllocError;
+use std::alloc::Global;
+use walk::Walk;
 
 impl Register {
-    // An empty register.
-    pub fn new() -> Register
-        ensures { λ r. ⌜ view r ≡ made ⌝ }
+    // An empty register, with memory for all that it can ever hold.
+    pub fn new(heap: Global) -> Result<Register, AllocError>
+        ensures { λ r. ⌜ whereMade r (λ register. view register ≡ made) ⌝ }
     {
-        Register {
+        let book = Book::new(heap)?;
+        let walk = Walk::new(heap)?;
+        Ok(Register {
             table: Table::new(),
-        }
+            book,
+            walk,
+        })
     }
 
     // Adds the form of a kind, and answers its number.
@@ -26,18 +37,29 @@ impl Register {
         self.table.add(kind, a, b)
     }
 
+    // Removes a line of the book, and answers its place; later lines move up.
+    pub fn strike(&mut self, line: usize) -> Result<usize, Refusal>
+        ensures answer { λ r. ⌜ told r ≡ answerTo (view (now (self .entry))) (strikeCall line) ⌝ }
+        ensures after { λ _. ⌜ view (now (self .exit)) ≡ stateAfter (view (now (self .entry))) (strikeCall line) ⌝ }
+    {
+        self.book.strike(line)
+    }
+
     // Makes the register as new.
     pub fn clear(&mut self)
         ensures { λ _. ⌜ view (now (self .exit)) ≡ stateAfter (view (now (self .entry))) clearCall ⌝ }
     {
         self.table = Table::new();
+        self.book.clear();
+        let _ = self.walk.abandon();
     }
 
-    // How a set stands, by its line in the book.
+    // How a set stands, by its line in the book. What is promised of every run of calls is promised here.
     pub fn stands(&self, set: u64) -> Option<Standing>
-        ensures { λ r. ⌜ r ≡ standingIn (view (now (self .entry)) .book) set ⌝ }
+        ensures value { λ r. ⌜ r ≡ standingIn (view (now (self .entry)) .book) set ⌝ }
+        ensures truth { λ r. ⌜ Truly (view (now (self .entry)) .table) set r ⌝ }
+        ensures promises { λ _. ⌜ Promises ⌝ }
     {
-        let _ = set;
-        None
+        self.book.standing(set)
     }
 }

@@ -1,7 +1,8 @@
-// The register: a table of forms, a book of what is known of their sets, and a walk that is under way.
+// The register: a table of forms, a book of what is known of their sets, and a walk.
 pub mod book;
 mod calls;
+mod lines;
 pub mod register;
+mod walking;
 
-pub use book::Standing;
 pub use register::Register;

@@ -64,6 +64,7 @@ returns g c =
     λ t h. inv .1 t h ∙ ap (λ (l : List ℕ). getD l t 0) start ∙ cleared-beyond old n t h in
     record {
       tells = marks-tell table m (g .M·Machine·met .sound (c .args .machine .now) .total .serial) marks at;
+      each = at;
       marks-are = filled (mark table m) n old marks (search needs) (c .pre .2) at past;
       scratch-is = begun n _ _ _ (c .clear-scratch .ensures) (c .count-n .ensures)
           ∙ cleared-alike (c .args .scratch .now) (c .loop-f .scratch) n (search needs) (inv .2);
