@@ -1,0 +1,7 @@
+mod TimerSound
+mod MaskSound
+mod ProductSound
+mod BelowTests
+mod RowFaults
+mod RowsSound
+mod Decoding
