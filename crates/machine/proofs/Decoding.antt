@@ -3,14 +3,13 @@ use mathlib.Core.Path.{_≡_, _∙_, ap, refl, subst, sym, fun-ext}
 use mathlib.Core.Bool.{Bool, true, false, cond, _&&_}
 use mathlib.Core.List.{List}
 use mathlib.Core.Logic.{⊎-elim}
-use Prim.Native.Nat.{ℕ, zero, suc, _+_, _*_, _^_, _<_, _≤_}
+use Prim.Native.Nat.{ℕ, zero, suc, _+_, _^_, _<_, _≤_}
 use native.Mathlib.Omega.{arith}
 use lib.Dec.{ltb, leb, eqb}
 use lib.IntN.{ℤ, pos, negsuc, _+ℤ_}
 use lib.ListN.{length, getD}
 use Rattle.std.proofs.shelf.Bits.{pow-pos}
 use Rattle.std.proofs.shelf.Counted.{length-map-counting, getD-map-counting}
-use Rattle.std.proofs.shelf.Lists.{getD-past}
 use Rattle.std.proofs.shelf.Tests.{and-parts, and-from, and-left, leb-true, ltb-true, lt-ltb, le-ltb, eqb-true, eq-eqb, cond-true, cond-false, cases-eq, cases-lt, both-ways}
 use Rattle.std.specs.Options.{isSome, mapped, orOther}
 use Rattle.std.specs.declared.option.Option.{Option}
@@ -18,9 +17,9 @@ use Rattle.std.specs.declared.option.Option.the-variants.{Some, None}
 use Rattle.ctl.specs.Model.{Model}
 use Rattle.ctl.proofs.Search.{some-found, some-from}
 use Rattle.machine.specs.declared.row.Row.{Row}
-use Rattle.machine.specs.Sheet.{four-bytes, row-count, row-start, row-atoms, degree, offset, is-row, offset-leads, sheet, Reached, Sheet-successors}
-use Rattle.machine.specs.Rows.{decoded-row, decoded, no-row, target, row-leads, rows-model}
-use Rattle.machine.specs.Faults.{at-row, row-fault, rows-fault, sheet-fault}
+use Rattle.machine.specs.Sheet.{four-bytes, row-count, row-start, row-atoms, degree, offset, is-row, offset-leads, sheet, Sheet-successors}
+use Rattle.machine.specs.Rows.{decoded-row, decoded, no-row, target, row-leads, rows-model, Narrow}
+use Rattle.machine.specs.Faults.{at-row, row-fault, rows-fault, sheet-fault, Faultless}
 use Rattle.machine.proofs.BelowTests.{some-agrees}
 use Rattle.machine.proofs.RowsSound.{passes, clean-row, past-atoms, past-leads}
 
@@ -72,7 +71,7 @@ module _ (bytes : List ℕ) (n : ℕ) where
   four-fit : ((i : ℕ) → getD bytes i 0 < 256) → (i : ℕ) → four-bytes bytes i < 2 ^ 32
   four-fit octets i = omega (arith, octets i, octets (i + 1), octets (i + 2), octets (i + 3))
 
-  narrow-decoded : ((i : ℕ) → getD bytes i 0 < 256) → (s : ℕ) → getD (decoded bytes n) s no-row .atoms < 2 ^ 32
+  narrow-decoded : ((i : ℕ) → getD bytes i 0 < 256) → Narrow (decoded bytes n)
   narrow-decoded octets s =
       ⊎-elim
       (λ h. subst (λ (row : Row). row .atoms < 2 ^ 32) (sym (decoded-at s h)) (four-fit octets (row-start s)))
@@ -82,8 +81,7 @@ module _ (bytes : List ℕ) (n : ℕ) where
   -- the rows of a body with which nothing is wrong keep a sheet's invariant
   pub ready : (rows : List Row) → rows ≡ decoded bytes n → 1 ≤ n → n ≤ 1024 → isSome (rows-fault bytes n n) ≡ false → ((i : ℕ) → getD bytes i 0 < 256) →
       (1 ≤ length rows) × ((length rows ≤ 1024)
-      × (((s : ℕ) → s < length rows → isSome (row-fault (length rows) s (getD rows s no-row)) ≡ false)
-      × ((s : ℕ) → getD rows s no-row .atoms < 2 ^ 32)))
+      × (Faultless rows × Narrow rows))
   ready rows same low few none octets =
       let long : length rows ≡ n = ap length same ∙ length-decoded in
       let at : (s : ℕ) → s < n → getD rows s no-row ≡ decoded-row bytes s =
@@ -94,7 +92,7 @@ module _ (bytes : List ℕ) (n : ℕ) where
           (
             (λ s h. subst (λ m. isSome (row-fault m s (getD rows s no-row)) ≡ false) (sym long)
                 (subst (λ (row : Row). isSome (row-fault n s row) ≡ false) (sym (at s (omega arith))) (none-at n s none (omega arith)))),
-            (λ s. subst (λ (l : List Row). getD l s no-row .atoms < 2 ^ 32) (sym same) (narrow-decoded octets s)),
+            subst Narrow (sym same) (narrow-decoded octets),
           ),
         ),
       )

@@ -1,9 +1,9 @@
 -- Rows with which nothing is wrong are a machine.
-use mathlib.Core.Path.{_≡_, ap, refl, sym, _∙_}
-use mathlib.Core.Bool.{Bool, true, false, _&&_}
+use mathlib.Core.Path.{_≡_, ap, refl, sym}
+use mathlib.Core.Bool.{Bool, true, false, cond, _&&_}
 use mathlib.Core.List.{List}
 use mathlib.Core.Logic.{⊎-elim}
-use Prim.Native.Nat.{ℕ, _^_, _<_, _≤_}
+use Prim.Native.Nat.{ℕ, _<_, _≤_}
 use native.Mathlib.Omega.{arith}
 use lib.Dec.{leb}
 use lib.IntN.{ℤ, pos, negsuc}
@@ -13,15 +13,14 @@ use Rattle.std.proofs.shelf.Tests.{and-parts, ltb-true, leb-true, eqb-true, eq-
 use Rattle.std.specs.Options.{isSome}
 use Rattle.std.specs.declared.option.Option.{Option}
 use Rattle.std.specs.declared.option.Option.the-variants.{Some}
-use mathlib.Core.Bool.{cond}
 use Rattle.ctl.specs.Model.{Serial}
 use Rattle.ctl.specs.Search.{some, every}
 use Rattle.ctl.proofs.Search.{some-found, some-from, every-at}
 use Rattle.machine.specs.declared.row.Row.{Row}
 use Rattle.machine.specs.Interface.{Sound}
 use Rattle.machine.specs.Sheet.{is-row}
-use Rattle.machine.specs.Rows.{no-row, target, row-leads, rows-model}
-use Rattle.machine.specs.Faults.{inside, row-fault}
+use Rattle.machine.specs.Rows.{no-row, target, row-leads, rows-model, Narrow}
+use Rattle.machine.specs.Faults.{inside, row-fault, Faultless}
 
 -- a choice with a fault on one side that comes to none
 pub passes : {X : Type 0} (b : Bool) (rest : Option X) (e : X) → isSome (cond b rest (Some e)) ≡ false → (b ≡ true) × (isSome rest ≡ false)
@@ -62,8 +61,7 @@ pub past-leads : (rows : List Row) (s t : ℕ) → length rows ≤ s → row-lea
 unfolding some
 past-leads rows s t h = ap (λ (row : Row). row-leads row s t) (getD-past rows s no-row h)
 
-module _ (rows : List Row)
-    (clean : (s : ℕ) → s < length rows → isSome (row-fault (length rows) s (getD rows s no-row)) ≡ false) where
+module _ (rows : List Row) (clean : Faultless rows) where
   leads-within : (s t : ℕ) → rows-model rows .leads s t ≡ true → (s < length rows) × (t < length rows)
   leads-within s t e =
       let row = getD rows s no-row in
@@ -87,7 +85,7 @@ module _ (rows : List Row)
     within = leads-within;
   }
 
-  pub rows-sound : 1 ≤ length rows → length rows ≤ 1024 → ((s : ℕ) → getD rows s no-row .atoms < 2 ^ 32) → Sound (rows-model rows)
+  pub rows-sound : 1 ≤ length rows → length rows ≤ 1024 → Narrow rows → Sound (rows-model rows)
   rows-sound inhabited few narrow = record {
     total = record { serial = rows-serial inhabited; blank = past-atoms rows };
     bounded = few;

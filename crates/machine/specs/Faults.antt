@@ -2,11 +2,11 @@
 use mathlib.Core.Path.{_≡_}
 use mathlib.Core.Bool.{Bool, false, cond, _&&_}
 use mathlib.Core.List.{List}
-use Prim.Native.Nat.{ℕ, zero, suc}
+use Prim.Native.Nat.{ℕ, zero, suc, _<_}
 use lib.Dec.{eqb, ltb, leb}
 use lib.IntN.{ℤ, pos, negsuc}
-use lib.ListN.{length}
-use Rattle.std.specs.Options.{mapped, orOther}
+use lib.ListN.{length, getD}
+use Rattle.std.specs.Options.{isSome, mapped, orOther}
 use Rattle.std.specs.declared.option.Option.{Option}
 use Rattle.std.specs.declared.option.Option.the-variants.{Some, None}
 use Rattle.std.specs.declared.result.Result.{Result}
@@ -19,7 +19,7 @@ use Rattle.machine.specs.declared.rejection.SheetError.{SheetError}
 use Rattle.machine.specs.declared.rejection.SheetError.the-variants.{Rejected, NoMemory}
 use Rattle.machine.specs.declared.row.Row.{Row}
 use Rattle.machine.specs.Sheet.{row-count, row-start}
-use Rattle.machine.specs.Rows.{decoded-row, target}
+use Rattle.machine.specs.Rows.{decoded-row, no-row, target}
 
 -- a refusal at row s
 abbrev pub at-row : ℕ → Refusal → Rejection
@@ -36,6 +36,10 @@ row-fault n s row =
     cond (leb 1 (row .degree) && leb (row .degree) 8)
     (cond (every (row .degree) (λ k. inside n (target row s k))) None (Some RowOffset))
     (Some RowDegree)
+
+-- nothing is wrong with any of the rows
+abbrev pub Faultless : List Row → Type 0
+Faultless rows = (s : ℕ) → s < length rows → isSome (row-fault (length rows) s (getD rows s no-row)) ≡ false
 
 -- what is wrong with the first bad row below s, in a body of n rows
 abbrev pub rows-fault : List ℕ → ℕ → ℕ → Option Rejection

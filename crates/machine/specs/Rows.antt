@@ -1,14 +1,15 @@
 -- The rows of a sheet, decoded once from the bytes of a modes body.
+use mathlib.Core.Path.{_≡_}
 use mathlib.Core.Bool.{Bool}
 use mathlib.Core.List.{List, [], map}
-use Prim.Native.Nat.{ℕ}
+use Prim.Native.Nat.{ℕ, _^_, _<_}
 use lib.IntN.{ℤ, pos, _+ℤ_}
 use lib.ListN.{length, getD}
 use Rattle.std.specs.Iters.{counting}
 use Rattle.ctl.specs.Model.{Model}
 use Rattle.ctl.specs.Search.{some}
 use Rattle.machine.specs.declared.row.Row.{Row}
-use Rattle.machine.specs.Sheet.{row-atoms, degree, offset, is-row}
+use Rattle.machine.specs.Sheet.{row-count, row-atoms, degree, offset, is-row, sheet}
 
 -- row s of a body
 abbrev pub decoded-row : List ℕ → ℕ → Row
@@ -37,3 +38,12 @@ rows-model rows = record {
   atoms = λ s. getD rows s no-row .atoms;
   leads = λ s t. row-leads (getD rows s no-row) s t;
 }
+
+-- no row has an atom above 31
+abbrev pub Narrow : List Row → Type 0
+Narrow rows = (s : ℕ) → getD rows s no-row .atoms < 2 ^ 32
+
+-- the rows are those of a body, and mean the machine in it
+pub record Decodes (bytes : List ℕ) (rows : List Row) : Type 0 where
+  pub items : rows ≡ decoded bytes (row-count bytes)
+  pub means : rows-model rows ≡ sheet bytes

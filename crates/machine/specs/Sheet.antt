@@ -14,12 +14,15 @@ use Rattle.std.specs.Orderings.{Decides}
 use Rattle.ctl.specs.Model.{Model}
 use Rattle.ctl.specs.Search.{some}
 
+-- the two-byte number at place i
 abbrev pub two-bytes : List ℕ → ℕ → ℕ
 two-bytes bytes i = getD bytes i 0 + getD bytes (i + 1) 0 * 256
 
+-- the four-byte number at place i
 abbrev pub four-bytes : List ℕ → ℕ → ℕ
 four-bytes bytes i = getD bytes i 0 + getD bytes (i + 1) 0 * 256 + getD bytes (i + 2) 0 * 65536 + getD bytes (i + 3) 0 * 16777216
 
+-- how many rows there are
 abbrev pub row-count : List ℕ → ℕ
 row-count bytes = two-bytes bytes 0
 
@@ -27,6 +30,7 @@ row-count bytes = two-bytes bytes 0
 abbrev pub row-start : ℕ → ℕ
 row-start s = 2 + 21 * s
 
+-- the atoms of row s, bit a for atom a
 abbrev pub row-atoms : List ℕ → ℕ → ℕ
 row-atoms bytes s = four-bytes bytes (row-start s)
 

@@ -1,14 +1,12 @@
 // The sheet: a machine decoded from a modes body.
 ghost use mathlib.Core.Path.{_≡_};
-ghost use mathlib.Core.Bool.{false};
-ghost use Prim.Native.Nat.{ℕ, _^_, _<_, _≤_};
-ghost use lib.ListN.{length, getD};
+ghost use Prim.Native.Nat.{_≤_};
+ghost use lib.ListN.{length};
 ghost use Rattle.std.specs.Of.Vec.{vec-items};
-ghost use Rattle.std.specs.Options.{isSome};
 ghost use Rattle.std.specs.Vec.{made};
-ghost use Rattle.machine.specs.Sheet.{row-start, row-count, sheet as sheet-of, Sheet-successors};
-ghost use Rattle.machine.specs.Rows.{decoded, no-row, rows-model};
-ghost use Rattle.machine.specs.Faults.{row-fault, rows-fault, sheet-fault, Reading};
+ghost use Rattle.machine.specs.Sheet.{row-start, row-count, Sheet-successors};
+ghost use Rattle.machine.specs.Rows.{decoded, rows-model, Narrow, Decodes};
+ghost use Rattle.machine.specs.Faults.{Faultless, rows-fault, sheet-fault, Reading};
 use crate::interface::Machine;
 use crate::rejection::Rejection;
 use crate::rejection::SheetError;
@@ -23,14 +21,14 @@ pub struct Sheet {
     rows: Vec<Row>,
     ghost inhabited: { 1 ≤ length (vec-items rows) },
     ghost few: { length (vec-items rows) ≤ 1024 },
-    ghost clean: { (s : ℕ) → s < length (vec-items rows) → isSome (row-fault (length (vec-items rows)) s (getD (vec-items rows) s no-row)) ≡ false },
-    ghost narrow: { (s : ℕ) → getD (vec-items rows) s no-row .atoms < 2 ^ 32 },
+    ghost clean: { Faultless (vec-items rows) },
+    ghost narrow: { Narrow (vec-items rows) },
 }
 
 impl Sheet {
     // The sheet in a body, or what is wrong with the body.
     pub fn read(heap: Global, bytes: &[u8]) -> Result<Sheet, SheetError>
-        ensures ends { λ r. ⌜ Reading (sheet-fault (now (bytes .entry))) r (λ x. (vec-items (x .rows) ≡ decoded (now (bytes .entry)) (row-count (now (bytes .entry)))) × (rows-model (vec-items (x .rows)) ≡ sheet-of (now (bytes .entry)))) ⌝ }
+        ensures ends { λ r. ⌜ Reading (sheet-fault (now (bytes .entry))) r (λ x. Decodes (now (bytes .entry)) (vec-items (x .rows))) ⌝ }
         ensures successors { λ _. ⌜ Sheet-successors ⌝ }
     {
         if let Some(rejection) = body_fault(bytes) {

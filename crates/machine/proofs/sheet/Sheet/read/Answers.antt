@@ -23,7 +23,7 @@ returns-in-Ok c =
     let none = sym (c .in-rest .ensures tt) in
     let rows = c .in-Ok .ensures tt ∙ ap (decoded bytes) (c .row-count-n .ensures) in
     let same = rows-mean bytes (vec-items (c .in-Ok .rows)) rows (accepted bytes (ap isSome none) .clean) in
-    record { ends = (none, (rows, same)); successors = sheet-successors }
+    record { ends = (none, record { items = rows; means = same }); successors = sheet-successors }
 
 pub returns-in-Err : need.returns-in-Err
 returns-in-Err c = record { ends = sym (c .in-rest .ensures tt); successors = sheet-successors }
