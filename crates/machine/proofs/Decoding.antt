@@ -6,18 +6,17 @@ use mathlib.Core.Logic.{⊎-elim}
 use Prim.Native.Nat.{ℕ, zero, suc, _+_, _^_, _<_, _≤_}
 use native.Mathlib.Omega.{arith}
 use lib.Dec.{ltb, leb, eqb}
-use lib.IntN.{ℤ, pos, negsuc, _+ℤ_}
+use lib.IntN.{ℤ, pos, _+ℤ_}
 use lib.ListN.{length, getD}
 use Rattle.std.proofs.shelf.Bits.{pow-pos}
 use Rattle.std.proofs.shelf.Counted.{length-map-counting, getD-map-counting}
-use Rattle.std.proofs.shelf.Tests.{and-parts, and-from, and-left, leb-true, ltb-true, lt-ltb, le-ltb, eqb-true, eq-eqb, cond-true, cond-false, cases-eq, cases-lt, both-ways}
+use Rattle.std.proofs.shelf.Tests.{and-parts, and-left, leb-true, lt-ltb, le-ltb, cond-true, cond-false, cases-eq, cases-lt, both-ways}
 use Rattle.std.specs.Options.{isSome, mapped, orOther}
 use Rattle.std.specs.declared.option.Option.{Option}
 use Rattle.std.specs.declared.option.Option.the-variants.{Some, None}
 use Rattle.ctl.specs.Model.{Model}
-use Rattle.ctl.proofs.Search.{some-found, some-from}
 use Rattle.machine.specs.declared.row.Row.{Row}
-use Rattle.machine.specs.Sheet.{four-bytes, row-count, row-start, row-atoms, degree, offset, is-row, offset-leads, sheet, Sheet-successors}
+use Rattle.machine.specs.Sheet.{four-bytes, row-count, row-start, row-atoms, degree, offset, is-row, offset-leads, sheet}
 use Rattle.machine.specs.Rows.{decoded-row, decoded, no-row, target, row-leads, rows-model, Narrow}
 use Rattle.machine.specs.Faults.{at-row, row-fault, rows-fault, sheet-fault, Faultless}
 use Rattle.machine.proofs.BelowTests.{some-agrees}
@@ -134,20 +133,3 @@ pub rows-mean : (bytes : List ℕ) (rows : List Row) → rows ≡ decoded bytes 
 rows-mean bytes rows same none =
     let n = row-count bytes in
     ap rows-model same ∙ same-model (rows-model (decoded bytes n)) (sheet bytes) (length-decoded bytes n) (atoms-mean bytes n) (leads-mean bytes n none)
-
-is-row-true : (t : ℕ) (z : ℤ) → is-row t z ≡ true → pos t ≡ z
-is-row-true t (pos u) e = ap pos (sym (eqb-true u t e))
-is-row-true t (negsuc u) e = absurd (both-ways true (sym e) refl)
-
-is-row-from : (t : ℕ) (z : ℤ) → pos t ≡ z → is-row t z ≡ true
-is-row-from t z e = subst (λ (y : ℤ). is-row t y ≡ true) e (eq-eqb t t refl)
-
-pub sheet-successors : Sheet-successors
-sheet-successors bytes s t =
-    let test : ℕ → Bool = λ k. is-row t (pos s +ℤ offset bytes s k) in (
-      (λ e.
-          let parts = and-parts _ _ e in
-          let f = some-found (degree bytes s) test (parts .1) in
-          (ltb-true _ _ (parts .0), (f .0, (f .1 .0, is-row-true t _ (f .1 .1))))),
-      (λ r. let k = r .1 .0 in and-from _ _ (lt-ltb _ _ (r .0)) (some-from (degree bytes s) test k (r .1 .1 .0) (is-row-from t _ (r .1 .1 .1)))),
-    )

@@ -5,3 +5,4 @@ mod BelowTests
 mod RowFaults
 mod RowsSound
 mod Decoding
+mod Successors

@@ -34,9 +34,13 @@ within-limit a b = leb (a .count * b .count) 1024
 abbrev pub product : (a b : Model) → Model
 product a b = cond (within-limit a b) (grid a b (synchronous a b)) a
 
--- the number of pairs of states, or the refusal where there are too many
+-- a number of pairs, or the refusal where there are too many
+abbrev pub limited-pairs : ℕ → Result ℕ Refusal
+limited-pairs pairs = cond (leb pairs 1024) (Ok pairs) (Err ProductSize)
+
+-- the number of pairs of states, if it is within the limit
 abbrev pub pair-count : (a b : Model) → Result ℕ Refusal
-pair-count a b = cond (within-limit a b) (Ok (a .count * b .count)) (Err ProductSize)
+pair-count a b = limited-pairs (a .count * b .count)
 
 -- ---- What is claimed.
 

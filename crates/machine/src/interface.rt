@@ -3,6 +3,9 @@ ghost use mathlib.Core.Path.{_≡_};
 ghost use Rattle.ctl.specs.Model.{Model};
 ghost use Rattle.machine.specs.Interface.{Sound};
 
+// The most states that a machine has.
+pub const MOST_STATES: usize = 1024;
+
 // A machine means its model. The questions are never refused and change nothing.
 pub trait Machine {
     ghost model: { Self → Model };

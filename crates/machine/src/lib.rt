@@ -7,6 +7,7 @@ mod row;
 pub mod sheet;
 pub mod timer;
 
+pub use interface::MOST_STATES;
 pub use interface::Machine;
 pub use mask::Masked;
 pub use product::Product;

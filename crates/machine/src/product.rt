@@ -1,6 +1,7 @@
 // The synchronous product: any two machines, stepping together.
 ghost use mathlib.Core.Path.{_≡_};
-ghost use Rattle.machine.specs.Product.{product, pair-count, Product-pairwise};
+ghost use Rattle.machine.specs.Product.{product, limited-pairs, pair-count, Product-pairwise};
+use crate::interface::MOST_STATES;
 use crate::interface::Machine;
 use forms::Refusal;
 
@@ -9,8 +10,14 @@ pub fn pair_count<L: Machine, R: Machine>(left: &L, right: &R) -> Result<usize, 
     ensures answer { λ r. ⌜ r ≡ pair-count (L·Machine .model (now (left .entry))) (R·Machine .model (now (right .entry))) ⌝ }
     ensures pairwise { λ _. ⌜ Product-pairwise ⌝ }
 {
-    let pairs = left.count() * right.count();
-    if pairs <= 1024 {
+    limited(left.count() * right.count())
+}
+
+// A number of pairs, if a machine has so many states.
+fn limited(pairs: usize) -> Result<usize, Refusal>
+    ensures { λ r. ⌜ r ≡ limited-pairs pairs ⌝ }
+{
+    if pairs <= MOST_STATES {
         Ok(pairs)
     } else {
         Err(Refusal::ProductSize)

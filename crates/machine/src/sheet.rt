@@ -7,6 +7,7 @@ ghost use Rattle.std.specs.Vec.{made};
 ghost use Rattle.machine.specs.Sheet.{row-start, row-count, Sheet-successors};
 ghost use Rattle.machine.specs.Rows.{decoded, rows-model, Narrow, Decodes};
 ghost use Rattle.machine.specs.Faults.{Faultless, rows-fault, sheet-fault, Reading};
+use crate::interface::MOST_STATES;
 use crate::interface::Machine;
 use crate::rejection::Rejection;
 use crate::rejection::SheetError;
@@ -77,7 +78,7 @@ fn body_fault(bytes: &[u8]) -> Option<Rejection>
         });
     }
     let n = row_count(bytes);
-    if n < 1 || n > 1024 {
+    if n < 1 || n > MOST_STATES {
         return Some(Rejection {
             refusal: Refusal::RowCount,
             row: 0,

@@ -4,6 +4,7 @@ ghost use Prim.Native.Nat.{_<_, _≤_};
 ghost use Rattle.std.specs.Vec.{made};
 ghost use Rattle.std.specs.Results.{errPart};
 ghost use Rattle.machine.specs.Timer.{timer, timer-refusal};
+use crate::interface::MOST_STATES;
 use crate::interface::Machine;
 use forms::Refusal;
 
@@ -23,7 +24,7 @@ impl Timer {
         ensures refuses { λ r. ⌜ errPart r ≡ timer-refusal states atom ⌝ }
         ensures makes { λ r. ⌜ made r (λ x. (x .states ≡ states) × (x .atom ≡ atom)) ⌝ }
     {
-        if states < 1 || states > 1024 || atom > 31 {
+        if states < 1 || states > MOST_STATES || atom > 31 {
             return Err(Refusal::TimerShape);
         }
         Ok(Timer { states, atom })

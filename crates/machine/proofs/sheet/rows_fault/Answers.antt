@@ -7,7 +7,8 @@ use Rattle.machine.proofs.sheet.rows_fault.Needs as need
 pub returns-in-Some : need.returns-in-Some
 returns-in-Some c =
     let found = ap (row-fault (c .args .n) (c .loop-s .s)) (sym (c .read .ensures)) ∙ sym (c .in-Some .ensures tt) in
-    sym (rows-fault-first (c .args .bytes .now) (c .args .n) (c .args .n) (c .loop-s .s) (c .in-Some .refusal) (omega arith) (c .loop-s .inv) found)
+    let first = rows-fault-first (c .args .bytes .now) (c .args .n) (c .args .n) (c .loop-s .s) (c .in-Some .refusal) (omega arith) (c .loop-s .inv) found in
+    cc
 
 pub loop-s-again : need.loop-s-again
 loop-s-again c =

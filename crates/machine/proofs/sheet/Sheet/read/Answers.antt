@@ -3,7 +3,8 @@ use Rattle.std.specs.Of.Vec.{vec-items}
 use Rattle.std.specs.Options.{isSome}
 use Rattle.machine.specs.Sheet.{row-count}
 use Rattle.machine.specs.Rows.{decoded}
-use Rattle.machine.proofs.Decoding.{accepted, ready, rows-mean, sheet-successors}
+use Rattle.machine.proofs.Decoding.{accepted, ready, rows-mean}
+use Rattle.machine.proofs.Successors.{sheet-successors}
 use Rattle.machine.proofs.sheet.Sheet.read.Needs as need
 
 pub returns-in-Some : need.returns-in-Some
