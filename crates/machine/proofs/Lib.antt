@@ -1,0 +1,8 @@
+mod TimerSound
+mod MaskSound
+mod ProductSound
+mod BelowTests
+mod RowFaults
+mod RowsSound
+mod Decoding
+mod Successors

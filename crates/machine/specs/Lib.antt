@@ -1,1 +1,7 @@
 pub mod Interface
+pub mod Timer
+pub mod Mask
+pub mod Product
+pub mod Sheet
+pub mod Rows
+pub mod Faults

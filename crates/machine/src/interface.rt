@@ -3,6 +3,9 @@ ghost use mathlib.Core.Path.{_≡_};
 ghost use Rattle.ctl.specs.Model.{Model};
 ghost use Rattle.machine.specs.Interface.{Sound};
 
+// The most states that a machine has.
+pub const MOST_STATES: usize = 1024;
+
 // A machine means its model. The questions are never refused and change nothing.
 pub trait Machine {
     ghost model: { Self → Model };
@@ -13,11 +16,11 @@ pub trait Machine {
     fn count(&self) -> usize
         ensures { λ r. ⌜ r ≡ model (now (self .entry)) .count ⌝ };
 
-    // The atoms of state s, bit a for atom a.
+    // The atoms of state s, bit a for atom a; none where s is no state.
     fn atoms(&self, s: usize) -> u32
         ensures { λ r. ⌜ r ≡ model (now (self .entry)) .atoms s ⌝ };
 
-    // Whether state s leads to state t.
+    // Whether state t is a successor of state s; not so where either is no state.
     fn leads(&self, s: usize, t: usize) -> bool
         ensures { λ r. ⌜ r ≡ model (now (self .entry)) .leads s t ⌝ };
 }
