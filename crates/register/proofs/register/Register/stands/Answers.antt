@@ -1,4 +1,11 @@
+use Rattle.protocol.proofs.Kept.{promises}
+use Rattle.register.specs.View.{view}
+use Rattle.register.proofs.Kept.{stands-truly}
 use Rattle.register.proofs.register.Register.stands.Needs as need
 
 pub returns : need.returns
-returns c = ?
+returns c = record {
+  value = c .standing .ensures;
+  truth = stands-truly (view (c .args .self .now)) (c .args .set) (c .standing .result) (c .standing .ensures) (c .args .self .now .sound);
+  promises = promises;
+}
