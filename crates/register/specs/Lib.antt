@@ -1,3 +1,4 @@
 pub mod Books
 pub mod View
 pub mod Answers
+pub mod Shows

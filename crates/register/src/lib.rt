@@ -3,6 +3,8 @@ pub mod book;
 mod calls;
 mod lines;
 pub mod register;
+pub mod showing;
 mod walking;
 
 pub use register::Register;
+pub use showing::Shown;

@@ -3,7 +3,7 @@ ghost use mathlib.Core.Path.{_≡_};
 ghost use mathlib.Core.List.{[]};
 ghost use Rattle.std.specs.Vec.{made};
 ghost use Rattle.protocol.specs.State.{standing as standingIn};
-ghost use Rattle.register.specs.Books.{linesOf, placeGiven, linesAfter, struck, linesStruck};
+ghost use Rattle.register.specs.Books.{linesOf, placeGiven, linesAfter, struck, linesStruck, roomFor, noted};
 use crate::book::Book;
 use forms::Refusal;
 use protocol::Line;
@@ -37,6 +37,23 @@ impl Book {
         }
         self.lines.push_reserved(line);
         Ok(at)
+    }
+
+    // Whether a line of the set is there, or can be added.
+    pub fn has_room_for(&self, set: u64) -> bool
+        ensures { λ r. ⌜ r ≡ roomFor (linesOf (now (self .entry))) set ⌝ }
+    {
+        self.standing(set).is_some() || self.lines.len() < 64
+    }
+
+    // Adds the set as possible, if all of it is held and it does not stand; a full book stays.
+    pub fn note(&mut self, set: u64, held: u64)
+        ensures { λ _. ⌜ linesOf (now (self .exit)) ≡ noted (linesOf (now (self .entry))) set held ⌝ }
+    {
+        if held == set && self.standing(set).is_none() {
+            let standing = Standing::Possible;
+            let _ = self.add(Line { set, standing });
+        }
     }
 
     // Removes a line; later lines move up.
