@@ -1,2 +1,4 @@
 mod Kept
 mod ShowOutcome
+mod Stepping
+mod TreeLoad

@@ -4,6 +4,7 @@ mod calls;
 mod lines;
 pub mod register;
 pub mod showing;
+mod trees;
 mod walking;
 
 pub use register::Register;
