@@ -7,4 +7,5 @@ pub mod table;
 pub use form::Form;
 pub use form::Quantifier;
 pub use refusal::Refusal;
+pub use refusal::Rejected;
 pub use table::Table;

@@ -68,6 +68,13 @@ pub enum Refusal {
     NoSheet,
 }
 
+// A refusal inside a body or a file: which record of the body met it, or which contents line of the file, from 0 and 0 where it is of none.
+#[derive(Clone, Copy)]
+pub struct Rejected {
+    pub refusal: Refusal,
+    pub at: usize,
+}
+
 impl Refusal {
     // The number under which it is reported.
     pub fn number(self) -> u8
