@@ -1,0 +1,11 @@
+// Files of parts: a reader is fresh, then listed, then closed, and hands out parts only while it is listed.
+mod contents;
+pub mod part;
+pub mod reader;
+#[cfg(test)]
+mod tests;
+
+pub use part::Part;
+pub use reader::Closed;
+pub use reader::Fresh;
+pub use reader::Listed;
