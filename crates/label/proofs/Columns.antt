@@ -3,7 +3,7 @@ use mathlib.Core.Path.{_≡_, refl, sym, ap, ap₂, _∙_, fun-ext}
 use mathlib.Core.Bool.{Bool, true, false, cond}
 use mathlib.Core.List.{List}
 use mathlib.Core.Logic.{_≢_, ⊎-elim}
-use Prim.Native.Nat.{ℕ, min, _+_, _*_, _/_, _%_, _^_, _<_}
+use Prim.Native.Nat.{ℕ, min, _+_, _/_, _%_, _^_, _<_, _≤_}
 use native.Mathlib.Nat.{add-zero}
 use native.Mathlib.Omega.{arith}
 use lib.Dec.{ltb}
@@ -11,14 +11,14 @@ use lib.ListN.{length, getD, set, length-set}
 use lib.Seq.{getD-set-same, getD-set-other}
 use Rattle.std.proofs.shelf.Tests.{cases-eq, ltb-true}
 use Rattle.ctl.specs.Rounds.{Subset}
-use Rattle.label.specs.Sets.{put-at}
+use Rattle.fixpoint.specs.Sets.{put-at}
 use Rattle.forms.specs.Sets.{member}
 use Rattle.label.specs.Bits.{others, put-bit}
-use Rattle.label.specs.Columns.{column, other-bits, room-of, Rest, rest-of, rest-in, current-in}
+use Rattle.label.specs.Columns.{column, other-bits, room-of, Rest, rest-of, rest-in, current-in, Untouched}
 use Rattle.label.specs.declared.column.Column.{Column}
 use denote.Ref.{now}
-use Rattle.label.proofs.Overlays.{put-other}
-use Rattle.label.proofs.Overlays
+use Rattle.fixpoint.proofs.Overlays.{put-other}
+use Rattle.fixpoint.proofs.Overlays
 use Rattle.label.proofs.Bitwise.{put-has, put-others, put-high, put-low, has-other, whole}
 
 pub room-below : (m s : List ℕ) (f i : ℕ) → i < room-of m s f → (f < 64) × (i < length m) × (i < length s)
@@ -82,17 +82,20 @@ module _ (last : Column) (marks scratch : List ℕ) (form m s : ℕ) (same : res
   same-form : last .form ≡ form
   same-form = ap (λ (q : Rest). q .form) same
 
-  pub column-now : current-in last ≡ column (now (last .marks)) form
-  column-now = ap (column (now (last .marks))) same-form
+  module _ (xs : List ℕ) (e : xs ≡ now (last .marks)) where
+    pub column-now : column xs form ≡ current-in last
+    column-now = ap₂ column e (sym same-form)
 
-  pub others-stay : other-bits (now (last .marks)) form ≡ other-bits marks form
-  others-stay = sym (ap (other-bits (now (last .marks))) same-form) ∙ ap (λ (q : Rest). q .marks) same
+    pub others-stay : other-bits xs form ≡ other-bits marks form
+    others-stay = ap₂ other-bits e (sym same-form) ∙ ap (λ (q : Rest). q .marks) same
 
-  pub marks-stay : (i : ℕ) → current-in last i ≡ column marks form i → getD (now (last .marks)) i 0 ≡ getD marks i 0
-  marks-stay i bit =
-      whole (getD (now (last .marks)) i 0) (getD marks i 0) form
-      (ap (λ (w : ℕ → ℕ). w i) others-stay) (sym (ap (λ (x : Subset). x i) column-now) ∙ bit)
+    pub marks-stay : (n : ℕ) → ((i : ℕ) → n ≤ i → current-in last i ≡ column marks form i) → Untouched n marks xs
+    marks-stay n bits i h =
+        whole (getD xs i 0) (getD marks i 0) form
+        (ap (λ (w : ℕ → ℕ). w i) others-stay) (ap (λ (x : Subset). x i) column-now ∙ bits i h)
 
-  pub scratch-stays : (i : ℕ) → column (now (last .scratch)) 0 i ≡ column scratch 0 i → getD (now (last .scratch)) i 0 ≡ getD scratch i 0
-  scratch-stays i bit =
-      whole (getD (now (last .scratch)) i 0) (getD scratch i 0) 0 (ap (λ (q : Rest). q .scratch i) same) bit
+  pub scratch-stays : (ys : List ℕ) → ys ≡ now (last .scratch) → (n : ℕ)
+      → ((i : ℕ) → n ≤ i → column (now (last .scratch)) 0 i ≡ column scratch 0 i) → Untouched n scratch ys
+  scratch-stays ys e n bits i h =
+      ap (λ (l : List ℕ). getD l i 0) e
+      ∙ whole (getD (now (last .scratch)) i 0) (getD scratch i 0) 0 (ap (λ (q : Rest). q .scratch i) same) (bits i h)

@@ -1,5 +1,3 @@
-pub mod Overlays
-pub mod Settles
 pub mod Bitwise
 pub mod Columns
 pub mod Successors

@@ -137,9 +137,9 @@ module _ (T : Table) (well : WellFormed T) (m : Model) (f : ℕ) (marks : List �
       ∙ put-above w f b (mark-fits T m t f)
       ∙ sym (ap (λ (k : ℕ). markBelow k T m t) (add-one f))
 
-pub rounds-more : (T : Table) (m : Model) (f r : ℕ) → r ≡ form-rounds m (formula T f) → roundsBelow f T m + r ≡ roundsBelow (f + 1) T m
+pub rounds-more : (T : Table) (m : Model) (f so-far r : ℕ) → so-far ≡ roundsBelow f T m → r ≡ form-rounds m (formula T f) → so-far + r ≡ roundsBelow (f + 1) T m
 unfolding roundsBelow
-rounds-more T m f r e = rw add-one (omega (arith, e))
+rounds-more T m f so-far r e h = rw add-one (omega (arith, e, h))
 
 pub rounds-few : (T : Table) (m : Model) → m .count ≤ 1024 → (f : ℕ) → roundsBelow f T m ≤ f * 1025
 unfolding roundsBelow

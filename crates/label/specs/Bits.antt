@@ -1,7 +1,6 @@
 -- One bit of a number.
 use mathlib.Core.Bool.{Bool, cond}
 use Prim.Native.Nat.{ℕ, _+_, _*_, _/_, _%_, _^_}
-use lib.Dec.{eqb}
 
 -- w with bit k cleared: the bits above it, and those below
 abbrev pub others : ℕ → ℕ → ℕ

@@ -2,7 +2,7 @@
 use mathlib.Core.Path.{_≡_}
 use mathlib.Core.Bool.{cond, _&&_}
 use mathlib.Core.List.{List}
-use Prim.Native.Nat.{ℕ, min, _*_, _/_, _%_, _≤_}
+use Prim.Native.Nat.{ℕ, min, _≤_}
 use lib.Dec.{ltb}
 use lib.ListN.{length, getD}
 use denote.Ref.{now, name}

@@ -5,7 +5,7 @@ ghost use denote.Ref.{now};
 ghost use Rattle.forms.specs.Sets.{member};
 ghost use Rattle.label.specs.Bits.{put-bit};
 ghost use Rattle.label.specs.Columns.{column, Rest, earlier-in, room-in, rest-in, current-in};
-use crate::fixpoint::SetPair;
+use fixpoint::pairs::SetPair;
 
 pub fn has_bit(w: u64, k: u8) -> bool
     requires { ⌜ k < 64 ⌝ }

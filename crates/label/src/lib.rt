@@ -1,6 +1,5 @@
 // The states of a finite machine labelled with the forms that hold there.
 mod column;
-mod fixpoint;
 mod labelling;
 mod mark;
 mod rounds;

@@ -1,8 +1,7 @@
-use mathlib.Core.Path.{_≡_, refl, ap, subst, _∙_}
+use mathlib.Core.Path.{_≡_, refl, subst}
 use mathlib.Core.Bool.{false}
 use mathlib.Core.List.{List}
 use mathlib.Core.Logic.{inl, inr}
-use Prim.Native.Nat.{ℕ}
 use native.Mathlib.Omega.{arith}
 use lib.ListN.{length}
 use Rattle.std.proofs.shelf.Tests.{and-from, and-left, and-right, le-leb, lt-leb}
@@ -18,7 +17,7 @@ returns-then-marks-n g c =
       | inl few ↦ and-left _ _ (lt-leb n (length (c .args .marks .now)) (omega (arith, few)))
       | inr more ↦ and-right _ _ (lt-leb n (length (c .args .scratch .now)) (omega (arith, more .1)))
     ] in
-    (cramped, refl, refl, refl)
+    (cramped, refl, refl {a = c .args .marks .now}, refl {a = c .args .scratch .now})
 
 pub mark-table-requires : need.mark-table-requires
 mark-table-requires g c κs = (c .as-slice .ensures .lawful .0, c .as-slice .ensures .lawful .1, omega arith, omega arith)

@@ -5,19 +5,15 @@ use native.Mathlib.Omega.{arith}
 use borrow.Author.Needs.{needs}
 use lib.ListN.{length, getD}
 use Rattle.label.specs.Show.{cleared, mark, markBelow, roundsBelow, roundsOf, marksAfter, scratchAfter}
-use Rattle.label.proofs.Lists.{cleared-below, cleared-beyond, cleared-alike, filled}
+use Rattle.label.proofs.Lists.{cleared-below, cleared-beyond, cleared-alike, untouched-again, filled}
 use Rattle.label.proofs.Marks.{marked-more, rounds-true, rounds-more, rounds-few, marks-tell}
 use Rattle.label.proofs.mark.mark_table.Needs as need
-
--- the marks as the first clearing leaves them
-begun : (n k : ℕ) (old now : List ℕ) → now ≡ cleared k old → k ≡ n → now ≡ cleared n old
-begun n k old now e size = e ∙ ap (λ (j : ℕ). cleared j old) size
 
 pub loop-f-holds : need.loop-f-holds
 unfolding markBelow roundsBelow
 loop-f-holds g c =
     let n = g .M·Machine .model (c .args .machine .now) .count in
-    let start = begun n _ _ _ (c .clear-marks .ensures) (c .count-n .ensures) in (
+    let start : c .clear-marks .last .marks ≡ cleared n (c .args .marks .now) = cc in (
       (λ t h. ap (λ (l : List ℕ). getD l t 0) start ∙ cleared-below (c .args .marks .now) n t h),
       (λ t h. refl),
       (λ t h. refl),
@@ -32,10 +28,9 @@ loop-f-again g c =
     let inv = c .loop-f .inv in
     let done = c .mark-form-rounds .ensures in (
       marked-more table (c .pre .0) m f (c .loop-f .marks) (inv .0) (c .mark-form-rounds .last .marks) _ (done .marked) (done .others),
-      (λ t h. done .beyond t h ∙ inv .1 t h),
-      (λ t h. done .scratch t h ∙ inv .2 t h),
-      ap (λ (r : ℕ). r + c .mark-form-rounds .result) (inv .3)
-          ∙ rounds-more table m f _ (done .marked .counted ∙ rounds-true table (c .pre .0) m f (c .loop-f .marks) (inv .0)),
+      untouched-again (m .count) _ (c .loop-f .marks) _ (inv .1) (done .beyond),
+      untouched-again (m .count) _ (c .loop-f .scratch) _ (inv .2) (done .scratch),
+      rounds-more table m f (c .loop-f .rounds) (c .mark-form-rounds .result) (inv .3) (cc (done .marked .counted, rounds-true table (c .pre .0) m f (c .loop-f .marks) (inv .0))),
     )
 
 pub add-rounds : need.add-rounds
@@ -57,7 +52,8 @@ returns g c =
     let marks = c .loop-f .marks in
     let inv = c .loop-f .inv in
     let end : c .loop-f .f ≡ length table = omega arith in
-    let start = begun n _ _ _ (c .clear-marks .ensures) (c .count-n .ensures) in
+    let start : c .clear-marks .last .marks ≡ cleared n old = cc in
+    let blank : c .clear-scratch .last .scratch ≡ cleared n (c .loop-f .scratch) = cc in
     let at : (t : ℕ) → t < n → getD marks t 0 ≡ mark table m t =
     λ t h. inv .0 t h ∙ ap (λ (k : ℕ). markBelow k table m t) end in
     let past : (t : ℕ) → n ≤ t → getD marks t 0 ≡ getD old t 0 =
@@ -66,7 +62,6 @@ returns g c =
       tells = marks-tell table m (g .M·Machine·met .sound (c .args .machine .now) .total .serial) marks at;
       each = at;
       marks-are = filled (mark table m) n old marks (search needs) (c .pre .2) at past;
-      scratch-is = begun n _ _ _ (c .clear-scratch .ensures) (c .count-n .ensures)
-          ∙ cleared-alike (c .args .scratch .now) (c .loop-f .scratch) n (search needs) (inv .2);
+      scratch-is = blank ∙ cleared-alike (c .args .scratch .now) (c .loop-f .scratch) n (search needs) (inv .2);
       counted = inv .3 ∙ ap (λ (k : ℕ). roundsBelow k table m) end;
     }

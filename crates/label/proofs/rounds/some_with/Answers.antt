@@ -21,8 +21,9 @@ returns-then-leads g c =
     let wanted = c .args .wanted in
     let below : t < m .count = omega (arith, c .count-n .ensures) in
     let alike : Bool·beq (x t) wanted ≡ true = ap (λ (b : Bool). Bool·beq b wanted) (sym (c .contains .ensures)) ∙ c .if-contains-wanted .taken in
+    let step : m .leads (c .args .s) t ≡ true = cc (c .if-leads .ensures tt) in
     sym (some-from (m .count) (λ u. m .leads (c .args .s) u && Bool·beq (x u) wanted) t below
-    (and-from (m .leads (c .args .s) t) (Bool·beq (x t) wanted) (sym (c .if-leads .ensures tt)) alike))
+    (and-from (m .leads (c .args .s) t) (Bool·beq (x t) wanted) step alike))
 
 pub loop-t-again : need.loop-t-again
 loop-t-again g c =
@@ -32,7 +33,9 @@ loop-t-again g c =
     let wanted = c .args .wanted in
     let here : (m .leads (c .args .s) t && Bool·beq (x t) wanted) ≡ false =
     elim (c .else-contains-wanted .came) [
-      | else-contains-wanted·by·then-contains-wanted·else-leads w ↦ and-left (m .leads (c .args .s) t) (Bool·beq (x t) wanted) (sym (w .if-leads .ensures tt))
+      | else-contains-wanted·by·then-contains-wanted·else-leads w ↦
+          let step : m .leads (c .args .s) t ≡ false = cc (w .if-leads .ensures tt) in
+          and-left (m .leads (c .args .s) t) (Bool·beq (x t) wanted) step
       | else-contains-wanted·by·else-contains-wanted w ↦
           and-right (m .leads (c .args .s) t) (Bool·beq (x t) wanted)
           (ap (λ (b : Bool). Bool·beq b wanted) (sym (c .contains .ensures)) ∙ w .if-contains-wanted .left)

@@ -1,4 +1,4 @@
-use mathlib.Core.Path.{sym, ap, _∙_}
+use mathlib.Core.Path.{ap}
 use mathlib.Core.Bool.{not}
 use Rattle.forms.specs.declared.form.Quantifier.{Quantifier}
 use Rattle.label.specs.Rounds.{follow}
@@ -9,10 +9,15 @@ pub returns-in-Exists : need.returns-in-Exists
 returns-in-Exists g c =
     let m = g .M·Machine .model (c .args .machine .now) in
     let x = g .X·Collection .members (c .args .set .now) in
-    c .some-with .ensures ∙ some-in m x (c .args .s) ∙ ap (λ (q : Quantifier). follow m q x (c .args .s)) (sym (c .in-Exists .is))
+    let found = some-in m x (c .args .s) in
+    let asked = ap (λ (q : Quantifier). follow m q x (c .args .s)) (c .in-Exists .is) in
+    cc
 
 pub returns-in-Every : need.returns-in-Every
 returns-in-Every g c =
     let m = g .M·Machine .model (c .args .machine .now) in
     let x = g .X·Collection .members (c .args .set .now) in
-    ap not (c .some-with-in-Every .ensures) ∙ none-out m x (c .args .s) ∙ ap (λ (q : Quantifier). follow m q x (c .args .s)) (sym (c .in-Every .is))
+    let answer = ap not (c .some-with-in-Every .ensures) in
+    let found = none-out m x (c .args .s) in
+    let asked = ap (λ (q : Quantifier). follow m q x (c .args .s)) (c .in-Every .is) in
+    cc

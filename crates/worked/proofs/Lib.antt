@@ -1,0 +1,4 @@
+mod Marked
+mod Walked
+mod Offsets
+mod Empty
