@@ -1,1 +1,4 @@
+pub mod Kept
+pub mod Files
 pub mod Meaning
+pub mod View

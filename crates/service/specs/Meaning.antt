@@ -1,30 +1,34 @@
--- What the service answers to a line, and the register after it.
+-- What the service answers to a line, and what it keeps after it.
 use mathlib.Core.Path.{_≡_}
 use mathlib.Core.List.{List, [], _∷_}
 use Prim.Native.Nat.{ℕ}
 use Rattle.std.specs.declared.option.Option.{Option}
 use Rattle.std.specs.declared.option.Option.the-variants.{None, Some}
+use Rattle.std.specs.declared.alloc.AllocError.{AllocError}
 use Rattle.std.specs.declared.result.Result.{Result}
 use Rattle.std.specs.declared.result.Result.the-variants.{Ok, Err}
+use Rattle.ctl.specs.Model.{Model}
 use Rattle.forms.specs.declared.refusal.Refusal.{Refusal}
-use Rattle.forms.specs.declared.refusal.Refusal.the-variants.{BadLine}
+use Rattle.forms.specs.declared.refusal.Refusal.the-variants.{NoSheet}
 use Rattle.lines.specs.declared.command.Command.{Command}
 use Rattle.lines.specs.declared.command.Command.the-variants.{Form, Open, Node, Enter, Abandon, Strike, Clear, Stands, Read, Show}
 use Rattle.lines.specs.declared.reply.Reply.{Reply}
-use Rattle.lines.specs.declared.reply.Reply.the-variants.{Number, Numbers, Refused, RefusedAt}
+use Rattle.lines.specs.declared.reply.Reply.the-variants.{Number, Numbers, Refused}
 use Rattle.lines.specs.Grammar.{Asks, Understood}
 use Rattle.lines.specs.Replies.{written}
-use Rattle.register.specs.declared.book.Standing.{Standing}
-use Rattle.register.specs.declared.book.Standing.the-variants.{Impossible, Possible}
-use Rattle.register.specs.State.{State, standing}
-use Rattle.register.specs.Calls.{Answer, ok, refused, form, clear, answer, after}
+use Rattle.protocol.specs.declared.line.Standing.{Standing}
+use Rattle.protocol.specs.declared.line.Standing.the-variants.{Impossible, Possible}
+use Rattle.protocol.specs.State.{State, standing}
+use Rattle.protocol.specs.Calls.{Call, form, openAt, node, enter, abandon, show, strike, clear, Answer, ok, refused, answer, after}
+use Rattle.service.specs.Kept.{Kept, withRegister}
+use Rattle.service.specs.Files.{reading}
 
 -- the reply that tells an answer of the register
 abbrev pub said : Answer → Reply
 said (ok []) = Number 0
 said (ok (n ∷ [])) = Number n
 said (ok (n ∷ m ∷ more)) = Numbers n m
-said (refused why) = Refused why
+said (refused why at) = Refused why
 
 -- how a set stands, as a number
 abbrev pub standingNumber : Option Standing → ℕ
@@ -32,41 +36,39 @@ standingNumber None = 0
 standingNumber (Some Impossible) = 1
 standingNumber (Some Possible) = 2
 
--- the reply to a command; the letters O, N, E, A, S, R and H are refused as lines that ask for nothing
-abbrev pub replyTo : State → Command → Reply
-replyTo s (Form kind a b) = said (answer s (form kind a b))
-replyTo s Clear = said (answer s clear)
-replyTo s (Stands set) = Number (standingNumber (standing (s .book) set))
-replyTo s (Open set) = Refused BadLine
-replyTo s (Node number a b) = Refused BadLine
-replyTo s Enter = Refused BadLine
-replyTo s Abandon = Refused BadLine
-replyTo s (Strike at) = Refused BadLine
-replyTo s (Read name) = Refused BadLine
-replyTo s (Show set state) = Refused BadLine
+-- a call of the register is made, and its answer is told
+abbrev pub called : Kept → Call → Reply × Kept
+called k call = (said (answer (k .register) call), withRegister k (after (k .register) call))
 
-abbrev pub stateAfter : State → Command → State
-stateAfter s (Form kind a b) = after s (form kind a b)
-stateAfter s Clear = after s clear
-stateAfter s (Stands set) = s
-stateAfter s (Open set) = s
-stateAfter s (Node number a b) = s
-stateAfter s Enter = s
-stateAfter s Abandon = s
-stateAfter s (Strike at) = s
-stateAfter s (Read name) = s
-stateAfter s (Show set state) = s
+-- a show on the sheet that is kept, with room for 1,024 states
+abbrev pub onSheet : Kept → (set state : ℕ) → Option Model → Reply × Kept
+onSheet k set state None = (Refused NoSheet, k)
+onSheet k set state (Some m) = called k (show set state m 1024 1024)
+
+-- the reply to a command and what is kept then; `file` has the bytes of the file that a command to read names, none where it cannot be opened
+abbrev pub replyTo : Kept → (file : List ℕ) → Command → Reply × Kept
+replyTo k file (Form kind a b) = called k (form kind a b)
+replyTo k file (Open set) = called k (openAt set)
+replyTo k file (Node number a b) = called k (node number a b)
+replyTo k file Enter = called k enter
+replyTo k file Abandon = called k abandon
+replyTo k file (Strike line) = called k (strike line)
+replyTo k file Clear = called k clear
+replyTo k file (Stands set) = (Number (standingNumber (standing (k .register .book) set)), k)
+replyTo k file (Read name) = reading k file
+replyTo k file (Show set state) = onSheet k set state (k .sheet)
+
+-- a reply and what is kept then; want of memory leaves both open
+abbrev pub Performed : Reply × Kept → Result Reply AllocError → Kept → Type 0
+Performed due (Ok reply) later = (reply ≡ due .0) × (later ≡ due .1)
+Performed due (Err e) later = Unit {0}
 
 -- the same of a line that was read: its command, or that it has none
-abbrev pub replyFor : State → Result Command Refusal → Reply
-replyFor s (Ok command) = replyTo s command
-replyFor s (Err why) = Refused why
-
-abbrev pub stateFor : State → Result Command Refusal → State
-stateFor s (Ok command) = stateAfter s command
-stateFor s (Err why) = s
+abbrev pub replyFor : Kept → (file : List ℕ) → Result Command Refusal → Reply × Kept
+replyFor k file (Ok command) = replyTo k file command
+replyFor k file (Err why) = (Refused why, k)
 
 -- a line is answered with these bytes: those of the reply to its command, or of refusal 20 where it has none
-abbrev pub Answered : (line : List ℕ) (before : State) (bytes : List ℕ) (later : State) → Type 0
-Answered line before bytes later =
-    (read : Result Command Refusal) × Understood (Asks line) read × (bytes ≡ written (replyFor before read)) × (later ≡ stateFor before read)
+abbrev pub Answered : (line file : List ℕ) (before : Kept) (bytes : List ℕ) (later : Kept) → Type 0
+Answered line file before bytes later =
+    (read : Result Command Refusal) × Understood (Asks line) read × (bytes ≡ written (replyFor before file read .0)) × (later ≡ replyFor before file read .1)

@@ -1,66 +1,95 @@
 // What the service does with a line.
 ghost use mathlib.Core.Path.{_≡_};
 ghost use Rattle.std.specs.Of.String.{string-bytes};
-ghost use Rattle.std.specs.Vec.{made as whereOk};
-ghost use Rattle.lines.specs.Replies.{written};
-ghost use Rattle.register.specs.Calls.{told};
-ghost use Rattle.register.specs.State.{made};
-ghost use Rattle.register.specs.View.{view};
-ghost use Rattle.service.specs.Meaning.{said, standingNumber, replyTo, stateAfter, replyFor, stateFor, Answered};
+ghost use Rattle.std.specs.Vec.{made};
+ghost use Rattle.protocol.specs.Calls.{abandon as abandonCall, clear as clearCall, enter as enterCall, form as formCall, node as nodeCall, openAt, strike as strikeCall};
+ghost use Rattle.register.specs.Answers.{told};
+ghost use Rattle.service.specs.Kept.{begun};
+ghost use Rattle.service.specs.Meaning.{said, standingNumber, replyTo, onSheet, Answered, Performed};
+ghost use Rattle.service.specs.View.{kept};
 use crate::service::Service;
 use forms::Refusal;
 use lines::Command;
 use lines::Reply;
 use lines::put_reply;
 use lines::read_command;
+use machine::mask::MaskedMachine;
+use machine::sheet::SheetMachine;
+use protocol::Standing;
 use register::Register;
-use register::Standing;
-use std::fmt;
+use std::alloc::AllocError;
+use std::alloc::Global;
 
 impl Service {
-    // A service over an empty register.
-    pub fn new() -> Service
-        ensures { λ r. ⌜ view (r .register) ≡ made ⌝ }
+    // A service over an empty register, with no sheet.
+    pub fn new(heap: Global) -> Result<Service, AllocError>
+        ensures { λ r. ⌜ made r (λ service. kept service ≡ begun) ⌝ }
     {
-        Service {
-            register: Register::new(),
+        let register = Register::new(heap)?;
+        Ok(Service {
+            register,
+            sheet: None,
+            heap,
+        })
+    }
+
+    // Does what the line asks for, and puts the line of its reply in place of what `out` holds. `file` has the bytes of the file that a
+    // line to read names. Only want of memory, for a sheet or the reply, is an error.
+    pub fn answer(
+        &mut self,
+        line: &[u8],
+        file: &[u8],
+        out: &mut String,
+    ) -> Result<(), AllocError>
+        ensures { λ r. ⌜ made r (λ _. Answered (now (line .entry)) (now (file .entry)) (kept (now (self .entry))) (string-bytes (now (out .exit))) (kept (now (self .exit)))) ⌝ }
+    {
+        let reply = match read_command(line) {
+            Ok(command) => self.perform(command, file)?,
+            Err(refusal) => Reply::Refused(refusal),
+        };
+        match put_reply(out, reply) {
+            Ok(()) => Ok(()),
+            Err(_) => Err(AllocError),
         }
     }
 
-    // Does what the line asks for, and puts the line of its reply in place of what `out` holds.
-    pub fn answer(&mut self, line: &[u8], out: &mut String) -> fmt::Result
-        ensures { λ r. ⌜ whereOk r (λ _. Answered (now (line .entry)) (view (now (self .entry) .register)) (string-bytes (now (out .exit))) (view (now (self .exit) .register))) ⌝ }
-    {
-        let reply = match read_command(line) {
-            Ok(command) => self.perform(command),
-            Err(refusal) => Reply::Refused(refusal),
-        };
-        put_reply(out, reply)
-    }
-
     // Does what the command asks for.
-    fn perform(&mut self, command: Command<'_>) -> Reply
-        ensures reply { λ r. ⌜ r ≡ replyTo (view (now (self .entry) .register)) (command .entry) ⌝ }
-        ensures after { λ _. ⌜ view (now (self .exit) .register) ≡ stateAfter (view (now (self .entry) .register)) (command .entry) ⌝ }
+    fn perform(&mut self, command: Command<'_>, file: &[u8]) -> Result<Reply, AllocError>
+        ensures { λ r. ⌜ Performed (replyTo (kept (now (self .entry))) (now (file .entry)) (command .entry)) r (kept (now (self .exit))) ⌝ }
     {
-        match command {
+        Ok(match command {
             Command::Form { kind, a, b } => replied(self.register.form(kind, a, b)),
+            Command::Open(set) => replied(self.register.open(set)),
+            Command::Node { number, a, b } => replied(self.register.node(number, a, b)),
+            Command::Enter => replied(self.register.enter()),
+            Command::Abandon => replied(self.register.abandon()),
+            Command::Strike(line) => replied(self.register.strike(line as usize)),
             Command::Clear => {
                 self.register.clear();
                 Reply::Number(0)
             }
             Command::Stands(set) => Reply::Number(standing_number(self.register.stands(set))),
-            Command::Open(_) => Reply::Refused(Refusal::BadLine),
-            Command::Node {
-                number: _,
-                a: _,
-                b: _,
-            } => Reply::Refused(Refusal::BadLine),
-            Command::Enter => Reply::Refused(Refusal::BadLine),
-            Command::Abandon => Reply::Refused(Refusal::BadLine),
-            Command::Strike(_) => Reply::Refused(Refusal::BadLine),
-            Command::Read(_) => Reply::Refused(Refusal::BadLine),
-            Command::Show { set: _, state: _ } => Reply::Refused(Refusal::BadLine),
+            Command::Show { set, state } => self.show(set, state as usize),
+            Command::Read(_) => self.read(file)?,
+        })
+    }
+
+    // Shows the sheet that is kept.
+    fn show(&mut self, set: u64, state: usize) -> Reply
+        ensures reply { λ r. ⌜ r ≡ onSheet (kept (now (self .entry))) set state (kept (now (self .entry)) .sheet) .0 ⌝ }
+        ensures after { λ _. ⌜ kept (now (self .exit)) ≡ onSheet (kept (now (self .entry))) set state (kept (now (self .entry)) .sheet) .1 ⌝ }
+    {
+        let Some(machine) = &self.sheet else {
+            return Reply::Refused(Refusal::NoSheet);
+        };
+        let mut marks = [0; 1024];
+        let mut scratch = [0; 1024];
+        match self
+            .register
+            .show(set, state, machine, &mut marks, &mut scratch)
+        {
+            Ok(shown) => Reply::Numbers(shown.held, shown.rounds as u64),
+            Err(refusal) => Reply::Refused(refusal),
         }
     }
 }

@@ -1,5 +1,6 @@
 // The service: one line in, one reply out, over one register.
 mod calls;
+mod files;
 pub mod service;
 
 pub use service::Service;
