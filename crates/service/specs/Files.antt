@@ -1,4 +1,5 @@
 -- Reading a file: its parts are taken in order, up to a refusal; earlier parts stay.
+use mathlib.Core.Path.{_≡_}
 use mathlib.Core.Bool.{cond}
 use mathlib.Core.List.{List}
 use Prim.Native.Nat.{ℕ, zero, suc}
@@ -61,3 +62,7 @@ takeAll k file (Some e) = (RefusedAt (e .refusal) (e .at) 0, k)
 
 abbrev pub reading : Kept → (file : List ℕ) → Reply × Kept
 reading k file = takeAll (withSheet k None) file (fault file)
+
+-- the file has a modes part whose rows are in order
+abbrev pub HasSheet : (file : List ℕ) → Type 0
+HasSheet file = (i : ℕ) × (kindAt file i ≡ 2) × (sheet-fault (bodyAt file i) ≡ None)

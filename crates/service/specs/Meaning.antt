@@ -1,6 +1,7 @@
 -- What the service answers to a line, and what it keeps after it.
 use mathlib.Core.Path.{_≡_}
 use mathlib.Core.List.{List, [], _∷_}
+use mathlib.Core.Logic.{_⊎_}
 use Prim.Native.Nat.{ℕ}
 use Rattle.std.specs.declared.option.Option.{Option}
 use Rattle.std.specs.declared.option.Option.the-variants.{None, Some}
@@ -21,7 +22,7 @@ use Rattle.protocol.specs.declared.line.Standing.the-variants.{Impossible, Poss
 use Rattle.protocol.specs.State.{State, standing}
 use Rattle.protocol.specs.Calls.{Call, form, openAt, node, enter, abandon, show, strike, clear, Answer, ok, refused, answer, after}
 use Rattle.service.specs.Kept.{Kept, withRegister}
-use Rattle.service.specs.Files.{reading}
+use Rattle.service.specs.Files.{HasSheet, reading}
 
 -- the reply that tells an answer of the register
 abbrev pub said : Answer → Reply
@@ -58,17 +59,33 @@ replyTo k file (Stands set) = (Number (standingNumber (standing (k .register .bo
 replyTo k file (Read name) = reading k file
 replyTo k file (Show set state) = onSheet k set state (k .sheet)
 
--- a reply and what is kept then; want of memory leaves both open
-abbrev pub Performed : Reply × Kept → Result Reply AllocError → Kept → Type 0
-Performed due (Ok reply) later = (reply ≡ due .0) × (later ≡ due .1)
-Performed due (Err e) later = Unit {0}
+-- memory for a sheet is wanted only where the command is to read a file that has one in order
+abbrev pub WantsSheet : (file : List ℕ) → Command → Type 0
+WantsSheet file (Read name) = HasSheet file
+WantsSheet file (Form kind a b) = ⊥
+WantsSheet file (Open set) = ⊥
+WantsSheet file (Node number a b) = ⊥
+WantsSheet file Enter = ⊥
+WantsSheet file Abandon = ⊥
+WantsSheet file (Strike line) = ⊥
+WantsSheet file Clear = ⊥
+WantsSheet file (Stands set) = ⊥
+WantsSheet file (Show set state) = ⊥
+
+-- the reply is the due one, and so is what is kept then; or memory was wanted
+abbrev pub Performed : Reply × Kept → (Wants : Type 0) → Result Reply AllocError → Kept → Type 0
+Performed due Wants (Ok reply) later = (reply ≡ due .0) × (later ≡ due .1)
+Performed due Wants (Err e) later = Wants
 
 -- the same of a line that was read: its command, or that it has none
 abbrev pub replyFor : Kept → (file : List ℕ) → Result Command Refusal → Reply × Kept
 replyFor k file (Ok command) = replyTo k file command
 replyFor k file (Err why) = (Refused why, k)
 
--- a line is answered with these bytes: those of the reply to its command, or of refusal 20 where it has none
-abbrev pub Answered : (line file : List ℕ) (before : Kept) (bytes : List ℕ) (later : Kept) → Type 0
-Answered line file before bytes later =
+-- a line is answered with these bytes: those of the reply to its command, or of refusal 20 where it has none;
+-- where memory was wanted, it was for a sheet, or all was done and only the reply's text found none
+abbrev pub Answered : (line file : List ℕ) (before : Kept) → Result Unit AllocError → (bytes : List ℕ) (later : Kept) → Type 0
+Answered line file before (Ok x) bytes later =
     (read : Result Command Refusal) × Understood (Asks line) read × (bytes ≡ written (replyFor before file read .0)) × (later ≡ replyFor before file read .1)
+Answered line file before (Err e) bytes later =
+    HasSheet file ⊎ ((read : Result Command Refusal) × Understood (Asks line) read × (later ≡ replyFor before file read .1))

@@ -2,10 +2,9 @@
 ghost use mathlib.Core.Path.{_≡_};
 ghost use Rattle.std.specs.Of.String.{string-bytes};
 ghost use Rattle.std.specs.Vec.{made};
-ghost use Rattle.protocol.specs.Calls.{abandon as abandonCall, clear as clearCall, enter as enterCall, form as formCall, node as nodeCall, openAt, strike as strikeCall};
 ghost use Rattle.register.specs.Answers.{told};
 ghost use Rattle.service.specs.Kept.{begun};
-ghost use Rattle.service.specs.Meaning.{said, standingNumber, replyTo, onSheet, Answered, Performed};
+ghost use Rattle.service.specs.Meaning.{said, standingNumber, replyTo, onSheet, WantsSheet, Performed, Answered};
 ghost use Rattle.service.specs.View.{kept};
 use crate::service::Service;
 use forms::Refusal;
@@ -34,14 +33,14 @@ impl Service {
     }
 
     // Does what the line asks for, and puts the line of its reply in place of what `out` holds. `file` has the bytes of the file that a
-    // line to read names. Only want of memory, for a sheet or the reply, is an error.
+    // line to read names. Only want of memory, for a sheet or for the reply's text, is an error.
     pub fn answer(
         &mut self,
         line: &[u8],
         file: &[u8],
         out: &mut String,
     ) -> Result<(), AllocError>
-        ensures { λ r. ⌜ made r (λ _. Answered (now (line .entry)) (now (file .entry)) (kept (now (self .entry))) (string-bytes (now (out .exit))) (kept (now (self .exit)))) ⌝ }
+        ensures { λ r. ⌜ Answered (now (line .entry)) (now (file .entry)) (kept (now (self .entry))) r (string-bytes (now (out .exit))) (kept (now (self .exit))) ⌝ }
     {
         let reply = match read_command(line) {
             Ok(command) => self.perform(command, file)?,
@@ -55,7 +54,7 @@ impl Service {
 
     // Does what the command asks for.
     fn perform(&mut self, command: Command<'_>, file: &[u8]) -> Result<Reply, AllocError>
-        ensures { λ r. ⌜ Performed (replyTo (kept (now (self .entry))) (now (file .entry)) (command .entry)) r (kept (now (self .exit))) ⌝ }
+        ensures { λ r. ⌜ Performed (replyTo (kept (now (self .entry))) (now (file .entry)) (command .entry)) (WantsSheet (now (file .entry)) (command .entry)) r (kept (now (self .exit))) ⌝ }
     {
         Ok(match command {
             Command::Form { kind, a, b } => replied(self.register.form(kind, a, b)),
@@ -84,10 +83,8 @@ impl Service {
         };
         let mut marks = [0; 1024];
         let mut scratch = [0; 1024];
-        match self
-            .register
-            .show(set, state, machine, &mut marks, &mut scratch)
-        {
+        match self.register
+            .show(set, state, machine, &mut marks, &mut scratch) {
             Ok(shown) => Reply::Numbers(shown.held, shown.rounds as u64),
             Err(refusal) => Reply::Refused(refusal),
         }
