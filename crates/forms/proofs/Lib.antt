@@ -3,4 +3,5 @@ pub mod Formed
 mod Joining
 pub mod Numbering
 pub mod Reading
+mod Records
 pub mod SetsWithin

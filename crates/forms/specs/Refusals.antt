@@ -1,8 +1,9 @@
--- The number of each refusal.
+-- The number of each refusal, and refusals with a place.
 use mathlib.Core.Path.{_≡_}
 use Prim.Native.Nat.{ℕ}
 use Rattle.forms.specs.declared.refusal.Refusal.{Refusal}
 use Rattle.forms.specs.declared.refusal.Refusal.the-variants.{KindAbove11, AtomAbove31, OperandNotEarlier, SetBeyondTable, StateBeyondMachine, NoSuchStep, NotInGoal, DoesNotFit, DoesNotClose, RowCount, RowDegree, RowOffset, BuffersTooShort, FileShape, PartKind, PartLengths, BodyLength, ProductSize, TimerShape, BadLine, TableFull, BookFull, NoWalk, WalkPresent, GoalsWait, WalkClosed, PathTooLong, SetStands, NoSuchLine, NoPartLeft, NoSheet}
+use Rattle.forms.specs.declared.refusal.Rejected.{Rejected}
 
 abbrev pub numberOf : Refusal → ℕ
 numberOf KindAbove11 = 1
@@ -40,3 +41,7 @@ numberOf NoSheet = 31
 -- no two refusals have one number
 abbrev pub Numbers-differ : Type 0
 Numbers-differ = (e f : Refusal) → numberOf e ≡ numberOf f → e ≡ f
+
+-- a refusal at a record of a body, or at a contents line of a file
+abbrev pub rejected : Refusal → ℕ → Rejected
+rejected why at = record { refusal = why; at = at }

@@ -1,8 +1,8 @@
 // What a table does.
 ghost use mathlib.Core.Path.{_≡_};
 ghost use mathlib.Core.List.{[]};
-ghost use Prim.Native.Nat.{_<_};
-ghost use lib.ListN.{length};
+ghost use Prim.Native.Nat.{_<_, _≤_};
+ghost use lib.ListN.{length, take};
 ghost use Rattle.std.specs.Vec.{made};
 ghost use Rattle.forms.specs.Forms.{form, Earlier, Lawful, Solid};
 ghost use Rattle.forms.specs.Sets.{within};
@@ -59,12 +59,29 @@ impl Table {
         ensures number { λ r. ⌜ r ≡ numberGiven (formsOf (now (self .entry))) kind a b ⌝ }
         ensures after { λ _. ⌜ formsOf (now (self .exit)) ≡ tableAfter (formsOf (now (self .entry))) kind a b ⌝ }
     {
-        let at = self.as_slice().len();
-        let form = acceptable(at, kind, a, b)?;
-        self.forms[at] = form;
-        self.count.len = at + 1;
-        Ok(at)
+        append(&mut self.forms, &mut self.count, kind, a, b)
     }
+}
+
+// Writes the form of a kind behind the counted ones, and counts it.
+pub(crate) fn append(
+    forms: &mut [Form; 64],
+    count: &mut Count,
+    kind: u8,
+    a: u8,
+    b: u8,
+) -> Result<usize, Refusal>
+    requires { ⌜ now count .len ≤ 64 ⌝ }
+    ensures number { λ r. ⌜ r ≡ numberGiven (take (now (count .entry) .len) (now (forms .entry))) kind a b ⌝ }
+    ensures after { λ _. ⌜ take (now (count .exit) .len) (now (forms .exit)) ≡ tableAfter (take (now (count .entry) .len) (now (forms .entry))) kind a b ⌝ }
+    ensures few { λ _. ⌜ (now (count .entry) .len ≤ now (count .exit) .len) × (now (count .exit) .len ≤ 64) ⌝ }
+    ensures before { λ _. ⌜ take (now (count .entry) .len) (now (forms .exit)) ≡ take (now (count .entry) .len) (now (forms .entry)) ⌝ }
+{
+    let at = count.len;
+    let form = acceptable(at, kind, a, b)?;
+    forms[at] = form;
+    count.len = at + 1;
+    Ok(at)
 }
 
 // The form of a kind, if a table of n forms takes it.

@@ -1,6 +1,8 @@
 // Forms, the table that keeps them, and why a call is refused.
 mod calls;
 pub mod form;
+mod guard;
+mod loading;
 pub mod refusal;
 pub mod table;
 

@@ -1,14 +1,14 @@
 -- The contents of a file: a count byte, then for each part a line of a kind byte and a length of four bytes, low byte first. The bodies follow in that order.
-use mathlib.Core.Bool.{Bool, true, false, cond, _&&_}
+use mathlib.Core.Bool.{Bool, cond, _&&_}
 use mathlib.Core.List.{List}
 use Prim.Native.Nat.{ℕ, zero, suc, _+_, _*_}
 use lib.Dec.{eqb, leb, ltb}
 use lib.ListN.{length, getD}
 use Rattle.std.specs.declared.option.Option.{Option}
 use Rattle.std.specs.declared.option.Option.the-variants.{None, Some}
-use Rattle.forms.specs.declared.refusal.Refusal.{Refusal}
 use Rattle.forms.specs.declared.refusal.Refusal.the-variants.{FileShape, PartKind, PartLengths}
 use Rattle.forms.specs.declared.refusal.Rejected.{Rejected}
+use Rattle.forms.specs.Refusals.{rejected}
 
 -- four bytes from i on as a number
 abbrev pub word : List ℕ → ℕ → ℕ
@@ -42,10 +42,6 @@ known kind = leb 1 kind && leb kind 3
 abbrev pub unknownFrom : List ℕ → ℕ → ℕ → Option ℕ
 unknownFrom bs i zero = None
 unknownFrom bs i (suc n) = cond (known (kindAt bs i)) (unknownFrom bs (i + 1) n) (Some i)
-
--- a refusal, at a contents line
-abbrev pub rejected : Refusal → ℕ → Rejected
-rejected why line = record { refusal = why; at = line }
 
 -- an unknown kind, or else bodies that do not just fill the file
 abbrev pub fillingFault : List ℕ → Option ℕ → Option Rejected

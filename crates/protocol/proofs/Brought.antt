@@ -4,10 +4,11 @@ use mathlib.Core.List.{List, [], _∷_, _++_}
 use Prim.Native.Nat.{ℕ, suc}
 use lib.ListN.{length}
 use Rattle.std.proofs.shelf.Lists.{append-nil, append-assoc}
+use Rattle.forms.specs.Bodies.{Record, records}
 use Rattle.forms.specs.Forms.{Table}
 use Rattle.forms.proofs.Accepting.{accepted-form}
 use Rattle.protocol.specs.State.{State, made}
-use Rattle.protocol.specs.Bodies.{formsBody, treeBody, Record, records, setOf, stepsOf}
+use Rattle.protocol.specs.Bodies.{formsBody, treeBody, setOf, stepsOf}
 use Rattle.protocol.specs.Calls.{Call, form, openAt, node, enter, abandon, show, strike, clear, load, Outcome, taken, declined, onOpen, onNode, onEnter, atRecord, formOn, countForms, loadForms, loadTree, inTurn, outcome, answerOf, stateOf, after}
 use Rattle.protocol.specs.Runs.{from, reached, historyFrom, history, optional, stored, storedAll, broughtBy, ifAccepted, broughtAfter, brought}
 use Rattle.protocol.proofs.Outcomes.{Leaves, leaves-given, leaves-at, leaves-then, leaves-map}

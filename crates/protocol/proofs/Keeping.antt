@@ -10,6 +10,7 @@ use Rattle.std.specs.declared.option.Option.the-variants.{None}
 use Rattle.std.specs.declared.result.Result.the-variants.{Ok}
 use Rattle.ctl.specs.Model.{Model}
 use Rattle.forms.specs.declared.form.Form.{Form}
+use Rattle.forms.specs.Bodies.{records}
 use Rattle.forms.specs.Forms.{Table, WellFormed, Lawful}
 use Rattle.forms.specs.Sets.{within}
 use Rattle.forms.specs.Tables.{accepted}
@@ -27,7 +28,7 @@ use Rattle.protocol.specs.declared.line.Standing.{Standing}
 use Rattle.protocol.specs.declared.line.Standing.the-variants.{Impossible, Possible}
 use Rattle.protocol.specs.declared.line.Line.{Line}
 use Rattle.protocol.specs.State.{State, made, mostLines, standing, withTable, withBook, withWalk, withLine, without}
-use Rattle.protocol.specs.Bodies.{Body, formsBody, treeBody, records, setOf, stepsOf}
+use Rattle.protocol.specs.Bodies.{Body, formsBody, treeBody, setOf, stepsOf}
 use Rattle.protocol.specs.Calls.{Call, form, openAt, node, enter, abandon, show, strike, clear, load, Outcome, onForm, onOpen, onNode, onEnter, onShow, loadForms, loadTree, onLoad, outcome, after}
 use Rattle.protocol.specs.Runs.{Lawful as LawfulCall}
 use Rattle.protocol.specs.Invariant.{Tells, TrueLine, All, Distinct, Walked, Sound}

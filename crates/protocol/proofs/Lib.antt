@@ -9,3 +9,4 @@ mod Lines
 mod Brought
 mod Taken
 pub mod Kept
+pub mod Loads

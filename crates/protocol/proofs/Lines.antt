@@ -2,11 +2,12 @@
 use mathlib.Core.List.{[], _∷_}
 use mathlib.Core.Logic.{_⊎_, inl, inr}
 use Prim.Native.Nat.{ℕ}
+use Rattle.forms.specs.Bodies.{records}
 use Rattle.protocol.specs.declared.line.Standing.{Standing}
 use Rattle.protocol.specs.declared.line.Standing.the-variants.{Impossible, Possible}
 use Rattle.protocol.specs.declared.line.Line.{Line}
 use Rattle.protocol.specs.State.{State, withLine, without}
-use Rattle.protocol.specs.Bodies.{formsBody, treeBody, records, setOf, stepsOf}
+use Rattle.protocol.specs.Bodies.{formsBody, treeBody, setOf, stepsOf}
 use Rattle.protocol.specs.Calls.{Call, form, openAt, node, enter, abandon, show, strike, clear, load, onForm, onOpen, onNode, onEnter, loadForms, loadTree, outcome, after}
 use Rattle.protocol.specs.Promises.{InBook, Removes}
 use Rattle.protocol.proofs.BookLines.{stays-appended, stays-or-struck}

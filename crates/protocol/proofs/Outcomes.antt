@@ -4,8 +4,8 @@ use mathlib.Core.Bool.{Bool, true, false}
 use mathlib.Core.List.{List, [], _∷_}
 use Prim.Native.Nat.{ℕ, suc}
 use Rattle.forms.specs.declared.refusal.Refusal.{Refusal}
+use Rattle.forms.specs.Bodies.{Record}
 use Rattle.protocol.specs.State.{State}
-use Rattle.protocol.specs.Bodies.{Record}
 use Rattle.protocol.specs.Calls.{Outcome, taken, declined, given, atRecord, andThen, inTurn, answerOf, stateOf}
 use Rattle.protocol.specs.Runs.{Accepted}
 

@@ -14,6 +14,7 @@ use Rattle.ctl.specs.Model.{Model}
 use Rattle.forms.specs.declared.form.Form.{Form}
 use Rattle.forms.specs.declared.refusal.Refusal.{Refusal}
 use Rattle.forms.specs.declared.refusal.Refusal.the-variants.{NoSuchStep}
+use Rattle.forms.specs.Bodies.{Record}
 use Rattle.forms.specs.Forms.{Table}
 use Rattle.forms.specs.Sets.{within}
 use Rattle.forms.specs.Tables.{accepted}
@@ -26,7 +27,6 @@ use Rattle.protocol.specs.declared.line.Standing.{Standing}
 use Rattle.protocol.specs.declared.line.Standing.the-variants.{Impossible, Possible}
 use Rattle.protocol.specs.declared.line.Line.{Line}
 use Rattle.protocol.specs.State.{State, mostLines, standing, isFree, withTable, withBook, withWalk, withLine, without}
-use Rattle.protocol.specs.Bodies.{Record}
 use Rattle.protocol.specs.Calls.{formed, onForm, walked, onOpen, onNode, entered, onEnter, onAbandon, held, onShow, onStrike, formOn, nodeOn, countForms, loadForms, loadTree, inTurn}
 use Rattle.protocol.proofs.Outcomes.{Leaves, leaves-given, leaves-at, leaves-then, leaves-turn}
 

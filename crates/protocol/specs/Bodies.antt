@@ -1,23 +1,14 @@
--- The bodies that a register loads: records of three bytes, in a tree body after a set of eight.
+-- The bodies that a register loads; a tree body has its steps, records of three bytes, after a set of eight.
 use mathlib.Core.Bool.{Bool, _&&_}
 use mathlib.Core.List.{List, [], _∷_}
 use Prim.Native.Nat.{ℕ, _+_, _-_, _*_, _%_}
 use lib.Dec.{eqb, leb}
 use lib.ListN.{length, take, drop}
+use Rattle.forms.specs.Bodies.{Record, records}
 
 -- the bytes of a forms body or of a tree body
 pub data Body : Type 0 where
   formsBody treeBody : List ℕ → Body
-
-abbrev pub Record : Type 0
-Record = ℕ × ℕ × ℕ
-
--- the records of three bytes, as far as they go
-abbrev pub records : List ℕ → List Record
-records [] = []
-records (x ∷ []) = []
-records (x ∷ y ∷ []) = []
-records (x ∷ y ∷ z ∷ rest) = (x, y, z) ∷ records rest
 
 -- bytes as a number, low byte first
 abbrev pub lowFirst : List ℕ → ℕ
@@ -31,9 +22,6 @@ setOf bytes = lowFirst (take 8 bytes)
 abbrev pub stepsOf : List ℕ → List Record
 stepsOf bytes = records (drop 8 bytes)
 
--- whether the length of a body is one that its kind can have
-abbrev pub formsLength : List ℕ → Bool
-formsLength bytes = eqb (length bytes % 3) 0
-
+-- whether a tree body can have its length
 abbrev pub treeLength : List ℕ → Bool
 treeLength bytes = leb 8 (length bytes) && eqb ((length bytes - 8) % 3) 0

@@ -11,6 +11,7 @@ use Rattle.ctl.specs.Model.{Model}
 use Rattle.forms.specs.declared.form.Form.{Form}
 use Rattle.forms.specs.declared.refusal.Refusal.{Refusal}
 use Rattle.forms.specs.declared.refusal.Refusal.the-variants.{SetBeyondTable, StateBeyondMachine, BuffersTooShort, BodyLength, BookFull, SetStands, NoSuchLine}
+use Rattle.forms.specs.Bodies.{Record, records, formsLength}
 use Rattle.forms.specs.Forms.{Table}
 use Rattle.forms.specs.Sets.{within}
 use Rattle.forms.specs.Tables.{accepted}
@@ -18,7 +19,7 @@ use Rattle.label.specs.Show.{mark, roundsOf}
 use Rattle.walk.specs.Progress.{Progress, absent, opened, stepped, abandoned, finished, waitingIn}
 use Rattle.protocol.specs.declared.line.Standing.the-variants.{Impossible, Possible}
 use Rattle.protocol.specs.State.{State, made, mostLines, standing, isFree, withTable, withBook, withWalk, withLine, without}
-use Rattle.protocol.specs.Bodies.{Body, formsBody, treeBody, Record, records, setOf, stepsOf, formsLength, treeLength}
+use Rattle.protocol.specs.Bodies.{Body, formsBody, treeBody, setOf, stepsOf, treeLength}
 
 -- the nine calls, each with what the caller brings; of the marks and the scratch that a show is lent, their lengths count
 pub data Call : Type 0 where

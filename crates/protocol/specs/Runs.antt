@@ -4,10 +4,11 @@ use Rattle.std.specs.declared.option.Option.{Option}
 use Rattle.std.specs.declared.option.Option.the-variants.{None, Some}
 use Prim.Native.Nat.{ℕ, _^_, _≤_, _<_}
 use Rattle.forms.specs.declared.form.Form.{Form}
+use Rattle.forms.specs.Bodies.{Record, records}
 use Rattle.forms.specs.Forms.{Table, formOf}
 use Rattle.machine.specs.Interface.{Sound}
 use Rattle.protocol.specs.State.{State, made}
-use Rattle.protocol.specs.Bodies.{formsBody, treeBody, Record, records}
+use Rattle.protocol.specs.Bodies.{formsBody, treeBody}
 use Rattle.protocol.specs.Calls.{Call, form, openAt, node, enter, abandon, show, strike, clear, load, Answer, ok, refused, answer, after}
 
 abbrev pub Byte : ℕ → Type 0
