@@ -9,7 +9,7 @@ use Rattle.std.specs.declared.result.Result.the-variants.{Ok, Err}
 use Rattle.forms.specs.declared.refusal.Refusal.{Refusal}
 use Rattle.walk.specs.Progress.{Progress, stepped}
 use Rattle.protocol.specs.State.{State, withWalk}
-use Rattle.protocol.specs.Bodies.{Record, records}
+use Rattle.forms.specs.Bodies.{Record, records}
 use Rattle.protocol.specs.Calls.{Outcome, taken, declined, andThen, atRecord, inTurn, nodeOn, onNode, onEnter, walked, ok, refused, answerOf, stateOf}
 use Rattle.register.specs.Loads.{finishing}
 

@@ -1,9 +1,15 @@
--- Loading a tree body: open, and what the steps and enter come to.
+-- Loading a body: open, and what the steps and enter come to; what a caller of a forms body brings.
 use mathlib.Core.Path.{_≡_, refl, sym, ap, _∙_}
 use mathlib.Core.Bool.{Bool, true, false}
 use mathlib.Core.List.{List, [], _∷_}
-use Prim.Native.Nat.{ℕ}
+use Prim.Native.Nat.{ℕ, suc}
 use native.Mathlib.Omega.{arith}
+use lib.ListN.{getD}
+use mir.Syntax.{w8}
+use mir.Val.{Fits}
+use Rattle.std.specs.declared.result.Result.{Result}
+use Rattle.std.specs.declared.result.Result.the-variants.{Ok, Err}
+use Rattle.forms.specs.declared.refusal.Rejected.{Rejected}
 use Rattle.forms.specs.declared.refusal.Refusal.{Refusal}
 use Rattle.forms.specs.declared.refusal.Refusal.the-variants.{BodyLength, SetBeyondTable}
 use Rattle.forms.specs.Sets.{within}
@@ -11,7 +17,9 @@ use Rattle.walk.specs.Progress.{Progress, absent, present, opened, abandoned}
 use Rattle.protocol.specs.State.{State, withWalk}
 use Rattle.protocol.specs.Bodies.{treeBody, setOf, stepsOf, treeLength}
 use Rattle.protocol.specs.Calls.{Outcome, taken, declined, given, walked, andThen, onOpen, onAbandon, loadTree, onLoad, ok, refused, answerOf, stateOf}
-use Rattle.register.specs.Loads.{finishing}
+use Rattle.protocol.specs.Runs.{Bytes}
+use Rattle.protocol.proofs.Loads.{answerFrom}
+use Rattle.register.specs.Loads.{finishing, toldLoaded}
 use Rattle.register.proofs.Stepping.{accepted-not-refused}
 
 module _ (s : State) (bytes : List ℕ) (whole : treeLength bytes ≡ true) (set : ℕ) (is : set ≡ setOf bytes) where
@@ -64,3 +72,13 @@ abandon-walk-alone s = go (s .walk) refl
 pub put-back : (s opened-at later end : State) → s .walk ≡ absent → opened-at ≡ withWalk s (opened-at .walk) → later ≡ withWalk opened-at (later .walk) → end ≡ withWalk later absent → end ≡ s
 put-back s opened-at later end none e k f =
     f ∙ ap (λ (t : State). withWalk t absent) k ∙ ap (λ (t : State). withWalk t absent) e ∙ ap (withWalk s) (sym none)
+
+-- a slice of bytes brings bytes
+pub all-bytes : (bytes : List ℕ) → ((i : ℕ) → Fits w8 (getD bytes i 0)) → Bytes bytes
+all-bytes [] h = tt
+all-bytes (x ∷ rest) h = (h 0 .fits, all-bytes rest (λ i. h (suc i)))
+
+-- the answer of the table's load is the register's
+pub told-from : (r : Result ℕ Rejected) → toldLoaded r ≡ answerFrom r
+told-from (Ok n) = refl
+told-from (Err e) = refl

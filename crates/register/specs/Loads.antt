@@ -2,13 +2,22 @@
 use mathlib.Core.Path.{_≡_}
 use mathlib.Core.List.{List, [], _∷_}
 use Prim.Native.Nat.{ℕ}
+use denote.Ref.{now}
 use lib.ListN.{length}
 use Rattle.std.specs.declared.result.Result.{Result}
 use Rattle.std.specs.declared.result.Result.the-variants.{Ok, Err}
 use Rattle.forms.specs.declared.refusal.Rejected.{Rejected}
+use Rattle.protocol.specs.Bodies.{Body, formsBody, treeBody}
 use Rattle.protocol.specs.State.{State, withWalk}
-use Rattle.protocol.specs.Bodies.{Record}
+use Rattle.forms.specs.Bodies.{Record}
 use Rattle.protocol.specs.Calls.{Outcome, taken, declined, andThen, atRecord, inTurn, nodeOn, onEnter, Answer, ok, refused}
+use Rattle.register.specs.declared.body.Body.{Body as CodeBody}
+use Rattle.register.specs.declared.body.Body.the-variants.{Forms, Tree}
+
+-- a body by its bytes
+abbrev pub bodyOf : CodeBody → Body
+bodyOf (Forms bytes) = formsBody (now bytes)
+bodyOf (Tree bytes) = treeBody (now bytes)
 
 abbrev pub toldLoaded : Result ℕ Rejected → Answer
 toldLoaded (Ok n) = ok (n ∷ [])

@@ -2,7 +2,8 @@
 ghost use mathlib.Core.Path.{_≡_};
 ghost use Prim.Native.Nat.{_≤_};
 ghost use lib.ListN.{length};
-ghost use Rattle.protocol.specs.Bodies.{treeBody, records, setOf, treeLength};
+ghost use Rattle.forms.specs.Bodies.{records};
+ghost use Rattle.protocol.specs.Bodies.{treeBody, setOf, treeLength};
 ghost use Rattle.protocol.specs.Calls.{load as loadCall, answer as answerTo, after as stateAfter};
 ghost use Rattle.register.specs.View.{view};
 ghost use Rattle.register.specs.Loads.{toldLoaded, Stepped, Finished};

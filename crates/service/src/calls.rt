@@ -34,12 +34,7 @@ impl Service {
 
     // Does what the line asks for, and puts the line of its reply in place of what `out` holds. `file` has the bytes of the file that a
     // line to read names. Only want of memory, for a sheet or for the reply's text, is an error.
-    pub fn answer(
-        &mut self,
-        line: &[u8],
-        file: &[u8],
-        out: &mut String,
-    ) -> Result<(), AllocError>
+    pub fn answer(&mut self, line: &[u8], file: &[u8], out: &mut String) -> Result<(), AllocError>
         ensures { λ r. ⌜ Answered (now (line .entry)) (now (file .entry)) (kept (now (self .entry))) r (string-bytes (now (out .exit))) (kept (now (self .exit))) ⌝ }
     {
         let reply = match read_command(line) {
@@ -56,21 +51,23 @@ impl Service {
     fn perform(&mut self, command: Command<'_>, file: &[u8]) -> Result<Reply, AllocError>
         ensures { λ r. ⌜ Performed (replyTo (kept (now (self .entry))) (now (file .entry)) (command .entry)) (WantsSheet (now (file .entry)) (command .entry)) r (kept (now (self .exit))) ⌝ }
     {
-        Ok(match command {
-            Command::Form { kind, a, b } => replied(self.register.form(kind, a, b)),
-            Command::Open(set) => replied(self.register.open(set)),
-            Command::Node { number, a, b } => replied(self.register.node(number, a, b)),
-            Command::Enter => replied(self.register.enter()),
-            Command::Abandon => replied(self.register.abandon()),
-            Command::Strike(line) => replied(self.register.strike(line as usize)),
-            Command::Clear => {
-                self.register.clear();
-                Reply::Number(0)
-            }
-            Command::Stands(set) => Reply::Number(standing_number(self.register.stands(set))),
-            Command::Show { set, state } => self.show(set, state as usize),
-            Command::Read(_) => self.read(file)?,
-        })
+        Ok(
+            match command {
+                Command::Form { kind, a, b } => replied(self.register.form(kind, a, b)),
+                Command::Open(set) => replied(self.register.open(set)),
+                Command::Node { number, a, b } => replied(self.register.node(number, a, b)),
+                Command::Enter => replied(self.register.enter()),
+                Command::Abandon => replied(self.register.abandon()),
+                Command::Strike(line) => replied(self.register.strike(line as usize)),
+                Command::Clear => {
+                    self.register.clear();
+                    Reply::Number(0)
+                }
+                Command::Stands(set) => Reply::Number(standing_number(self.register.stands(set))),
+                Command::Show { set, state } => self.show(set, state as usize),
+                Command::Read(_) => self.read(file)?,
+            },
+        )
     }
 
     // Shows the sheet that is kept.

@@ -1,7 +1,7 @@
 use mathlib.Core.Path.{_≡_, sym, ap, _∙_}
 use Prim.Native.Nat.{ℕ}
 use Rattle.protocol.specs.State.{State, withWalk}
-use Rattle.protocol.specs.Bodies.{records}
+use Rattle.forms.specs.Bodies.{records}
 use Rattle.protocol.specs.Calls.{declined}
 use Rattle.register.specs.View.{view}
 use Rattle.register.proofs.Stepping.{finish-refused, enter-refused}

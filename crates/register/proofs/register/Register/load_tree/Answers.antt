@@ -4,7 +4,8 @@ use mathlib.Core.List.{List}
 use Prim.Native.Nat.{ℕ}
 use Rattle.std.proofs.shelf.Lists.{take-rest}
 use Rattle.protocol.specs.State.{State, withWalk}
-use Rattle.protocol.specs.Bodies.{records, stepsOf, treeLength}
+use Rattle.forms.specs.Bodies.{records}
+use Rattle.protocol.specs.Bodies.{stepsOf, treeLength}
 use Rattle.protocol.specs.Calls.{onOpen, answerOf, stateOf}
 use Rattle.register.specs.View.{view}
 use Rattle.register.specs.Loads.{finishing}

@@ -7,7 +7,7 @@ use borrow.Author.Needs.{needs}
 use lib.ListN.{length, drop}
 use Rattle.std.proofs.shelf.Lists.{take-rest}
 use Rattle.protocol.specs.State.{State}
-use Rattle.protocol.specs.Bodies.{records}
+use Rattle.forms.specs.Bodies.{records}
 use Rattle.protocol.specs.Calls.{inTurn, nodeOn}
 use Rattle.register.specs.View.{view}
 use Rattle.register.proofs.Stepping.{first, records-more, records-none, records-few, step-accepted, step-refused, step-walk-alone, walk-alone-on, none-in-turn}

@@ -2,7 +2,7 @@ use mathlib.Core.Path.{_≡_}
 use Prim.Native.Nat.{_+_}
 use lib.ListN.{length}
 use Rattle.protocol.specs.State.{withWalk}
-use Rattle.protocol.specs.Bodies.{records}
+use Rattle.forms.specs.Bodies.{records}
 use Rattle.protocol.specs.Calls.{inTurn, nodeOn}
 use Rattle.register.specs.View.{view}
 use Rattle.register.proofs.register.Register.take_steps.Given as given

@@ -11,6 +11,7 @@ use Rattle.service.proofs.service.Service.perform.Needs as need
 pub returns-in-Form : need.returns-in-Form
 returns-in-Form c =
     let k = kept (c .args .self .now) in
-    let file = c .args .file .now in
-    ( c .replied .ensures ∙ ap said (c .form .ensures .answer) ∙ ap (λ (x : Command). replyTo k file x .0) (sym (c .in-Form .is))
-    , ap (λ (s : State). withRegister k s) (c .form .ensures .after) ∙ ap (λ (x : Command). replyTo k file x .1) (sym (c .in-Form .is)) )
+    let file = c .args .file .now in (
+      c .replied .ensures ∙ ap said (c .form .ensures .answer) ∙ ap (λ (x : Command). replyTo k file x .0) (sym (c .in-Form .is)),
+      ap (λ (s : State). withRegister k s) (c .form .ensures .after) ∙ ap (λ (x : Command). replyTo k file x .1) (sym (c .in-Form .is)),
+    )
