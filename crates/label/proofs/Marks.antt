@@ -36,7 +36,7 @@ use Rattle.label.proofs.Bitwise.{put-has, put-same, put-high, put-low, has-oth
 use Rattle.label.proofs.Columns.{other-has}
 use Rattle.label.proofs.Labels.{truth-settled, rounds-settled}
 
--- ---- the bits of a mark
+-- the bits of a mark
 
 fits-more : (w f : ℕ) (b : Bool) → w < 2 ^ f → w + cond b (2 ^ f) 0 < 2 ^ suc f
 fits-more w f true h = omega (arith, pow-suc 2 f)
@@ -65,7 +65,7 @@ module _ (T : Table) (m : Model) (t : ℕ) where
       (λ here. subst (λ (k : ℕ). member (put-bit w f b) k ≡ truth m (formula T k) t) (sym here) (put-has w f b))
       (below-suc f i h)
 
--- ---- operands that are known alike give the same states
+-- operands that are known alike give the same states
 
 module _ (m : Model) (g h : ℕ → Subset) where
   follow-alike : (q : Quantifier) (x y : Subset) → Same (m .count) x y → Same (m .count) (follow m q x) (follow m q y)
@@ -97,7 +97,7 @@ module _ (m : Model) (round other : Subset → Subset) (grows : Monotone (m .cou
   rounds-alike None = refl
   rounds-alike (Some all) = rounds-agree (m .count) round other grows agree all
 
--- ---- a form more
+-- a form more
 
 module _ (T : Table) (well : WellFormed T) (m : Model) (f : ℕ) (marks : List ℕ)
     (so-far : (t : ℕ) → t < m .count → getD marks t 0 ≡ markBelow f T m t) where
