@@ -65,4 +65,4 @@ reading k file = takeAll (withSheet k None) file (fault file)
 
 -- the file has a modes part whose rows are in order
 abbrev pub HasSheet : (file : List ℕ) → Type 0
-HasSheet file = (i : ℕ) × (kindAt file i ≡ 2) × (sheet-fault (bodyAt file i) ≡ None)
+HasSheet file = (i : ℕ) × ((kindAt file i ≡ 2) × (sheet-fault (bodyAt file i) ≡ None))

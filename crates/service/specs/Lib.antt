@@ -1,4 +1,5 @@
 pub mod Kept
 pub mod Files
+pub mod Taking
 pub mod Meaning
 pub mod View

@@ -2,5 +2,6 @@
 mod calls;
 mod files;
 pub mod service;
+mod stop;
 
 pub use service::Service;
