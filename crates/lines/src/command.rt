@@ -10,6 +10,7 @@ use forms::Refusal;
 // The most bytes that a line has, its line feed apart.
 const LONGEST: usize = 100;
 
+#[derive(Clone, Copy)]
 pub enum Command<'a> {
     Form { kind: u8, a: u8, b: u8 },
     Open(u64),
