@@ -20,9 +20,6 @@ use Rattle.modefile.specs.Parts.{hasPart, Within}
 pub unknown-here : (bs : List ℕ) (i n : ℕ) → i < n → unknownFrom bs i (n - i) ≡ cond (known (kindAt bs i)) (unknownFrom bs (i + 1) (n - (i + 1))) (Some i)
 unknown-here bs i n h = let e : n - i ≡ suc (n - (i + 1)) = omega arith in ap (unknownFrom bs i) e
 
-pub unknown-past : (bs : List ℕ) (n : ℕ) → unknownFrom bs n (n - n) ≡ None
-unknown-past bs n = let e : n - n ≡ 0 = omega arith in ap (unknownFrom bs n) e
-
 pub place-more : (bs : List ℕ) (i : ℕ) → placeAt bs (i + 1) ≡ placeAt bs i + lengthAt bs i
 place-more bs i = ap (placeAt bs) (add-one i)
 

@@ -3,7 +3,7 @@ ghost use mathlib.Core.Bool.{true};
 ghost use mathlib.Core.Path.{_≡_};
 ghost use Prim.Native.Nat.{_+_, _*_, _<_, _≤_};
 ghost use lib.ListN.{length};
-ghost use Rattle.modefile.specs.Contents.{count, lengthAt, placeAt, shaped, unknownFrom, fault};
+ghost use Rattle.modefile.specs.Contents.{count, lengthAt, placeAt, shaped, known, unknownFrom, fault};
 ghost use Rattle.modefile.specs.Parts.{hasPart, Within};
 use forms::Refusal;
 use forms::Rejected;
@@ -73,12 +73,18 @@ fn unknown_kind(bytes: &[u8], parts: usize) -> Option<usize>
     ensures { λ r. ⌜ r ≡ unknownFrom (now (bytes .entry)) 0 parts ⌝ }
 {
     for line in 0..parts {
-        let kind = bytes[1 + 5 * line];
-        if kind < 1 || kind > 3 {
+        if !is_known(bytes[1 + 5 * line]) {
             return Some(line);
         }
     }
     None
+}
+
+// Whether a kind is that of forms, modes or a tree.
+fn is_known(kind: u8) -> bool
+    ensures { λ r. ⌜ r ≡ known kind ⌝ }
+{
+    1 <= kind && kind <= 3
 }
 
 // Whether the file's size and count are in bounds, and its contents are not cut short.
