@@ -1,6 +1,6 @@
 // The register: a table of forms, a book of what is known of their sets, and a walk.
 pub mod body;
-pub mod book;
+mod book;
 mod calls;
 mod lines;
 mod loading;

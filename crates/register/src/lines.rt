@@ -12,7 +12,7 @@ use std::alloc::AllocError;
 use std::alloc::Global;
 
 impl Book {
-    pub fn new(heap: Global) -> Result<Book, AllocError>
+    pub(crate) fn new(heap: Global) -> Result<Book, AllocError>
         ensures { λ r. ⌜ made r (λ book. linesOf book ≡ []) ⌝ }
     {
         let lines = Vec::with_capacity(heap, 64)?;
@@ -20,14 +20,14 @@ impl Book {
     }
 
     // How a set stands, by its line.
-    pub fn standing(&self, set: u64) -> Option<Standing>
+    pub(crate) fn standing(&self, set: u64) -> Option<Standing>
         ensures { λ r. ⌜ r ≡ standingIn (linesOf (now (self .entry))) set ⌝ }
     {
         standing_among(self.lines.as_slice(), set)
     }
 
     // Adds a line at the end, and answers its place.
-    pub fn add(&mut self, line: Line) -> Result<usize, Refusal>
+    pub(crate) fn add(&mut self, line: Line) -> Result<usize, Refusal>
         ensures place { λ r. ⌜ r ≡ placeGiven (linesOf (now (self .entry))) ⌝ }
         ensures after { λ _. ⌜ linesOf (now (self .exit)) ≡ linesAfter (linesOf (now (self .entry))) line ⌝ }
     {
@@ -40,14 +40,14 @@ impl Book {
     }
 
     // Whether a line of the set is there, or can be added.
-    pub fn has_room_for(&self, set: u64) -> bool
+    pub(crate) fn has_room_for(&self, set: u64) -> bool
         ensures { λ r. ⌜ r ≡ roomFor (linesOf (now (self .entry))) set ⌝ }
     {
         self.standing(set).is_some() || self.lines.len() < 64
     }
 
     // Adds the set as possible, if all of it is held and it does not stand; a full book stays.
-    pub fn note(&mut self, set: u64, held: u64)
+    pub(crate) fn note(&mut self, set: u64, held: u64)
         ensures { λ _. ⌜ linesOf (now (self .exit)) ≡ noted (linesOf (now (self .entry))) set held ⌝ }
     {
         if held == set && self.standing(set).is_none() {
@@ -57,7 +57,7 @@ impl Book {
     }
 
     // Removes a line; later lines move up.
-    pub fn strike(&mut self, at: usize) -> Result<usize, Refusal>
+    pub(crate) fn strike(&mut self, at: usize) -> Result<usize, Refusal>
         ensures place { λ r. ⌜ r ≡ struck (linesOf (now (self .entry))) at ⌝ }
         ensures after { λ _. ⌜ linesOf (now (self .exit)) ≡ linesStruck (linesOf (now (self .entry))) at ⌝ }
     {
@@ -69,7 +69,7 @@ impl Book {
     }
 
     // Removes every line.
-    pub fn clear(&mut self)
+    pub(crate) fn clear(&mut self)
         ensures { λ _. ⌜ linesOf (now (self .exit)) ≡ [] ⌝ }
     {
         self.lines.clear();
