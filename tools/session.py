@@ -162,6 +162,8 @@ def the_book():
     say("N 2 1 0", "ok 0")
     say("E", "no 28")
     say("A", "ok 0")
+    file("falsity", tree(sets[64], (2, 1)))
+    say("R falsity", "no 22 0 1")
     # a show is refused by a full book only where its set does not stand
     say("R rows", "ok 1")
     say("H 1 0", "no 22")

@@ -1,11 +1,14 @@
 -- The promises hold of every run.
+use mathlib.Core.Path.{subst}
 use mathlib.Core.List.{List, [], _∷_}
+use Rattle.tableau.proofs.Walking.{walk-keeps}
+use Rattle.walk.specs.Progress.{present}
 use Rattle.protocol.specs.declared.line.Standing.the-variants.{Impossible, Possible}
 use Rattle.protocol.specs.State.{State, made}
 use Rattle.protocol.specs.Calls.{Call, after}
 use Rattle.protocol.specs.Runs.{AllLawful, from, reached}
 use Rattle.protocol.specs.Promises.{Promises}
-use Rattle.protocol.specs.Invariant.{TrueLine, Sound}
+use Rattle.protocol.specs.Invariant.{TrueLine, Walked, Sound}
 use Rattle.protocol.proofs.BookLines.{all-standing}
 use Rattle.protocol.proofs.Keeping.{made-sound, after-sound}
 use Rattle.protocol.proofs.Brought.{table-is-brought}
@@ -28,6 +31,9 @@ promises calls lawful =
       shown-is-possible = λ set t m marks scratch l a k. holding-possible s set t m marks scratch h (l .1 .total .serial) a k;
       all-held-is-possible = λ set t m marks scratch rounds l e. reply-possible s set t m marks scratch h (l .1 .total .serial) rounds e;
       lines-stay = λ call l line k. lines-stay line s call k;
+      walk-tells = λ opened walk e m serial t k.
+          let w : Walked (s .table) (present opened walk) = subst (Walked (s .table)) e (h .walked) in
+          walk-keeps (s .table) (h .lawful .0) m serial opened (w .1 .0) walk (w .1 .1) t k;
       table-is-brought = table-is-brought calls;
       refutation-can-be-brought = λ set tree r. can-be-brought s set tree r (h .lawful .1);
       refutation-is-taken = λ set tree r absent free room nodes b. taken-whole s set tree r absent free room nodes b;

@@ -16,7 +16,9 @@ use Rattle.tableau.specs.declared.goals.Focus.the-variants.{Nowhere}
 use Rattle.tableau.specs.declared.goals.Step.{Step}
 use Rattle.tableau.specs.Steps.{stepOf}
 use Rattle.tableau.specs.Tree.{Tree, root, Obeys, ClosesEveryBranch, steps}
-use Rattle.walk.specs.Progress.{absent}
+use Rattle.tableau.specs.Statements.{Among}
+use Rattle.tableau.specs.Walk.{Walk, waiting}
+use Rattle.walk.specs.Progress.{absent, present}
 use Rattle.protocol.specs.declared.line.Standing.{Standing}
 use Rattle.protocol.specs.declared.line.Standing.the-variants.{Impossible, Possible}
 use Rattle.protocol.specs.declared.line.Line.{Line}
@@ -95,6 +97,10 @@ pub record PromisesOf (calls : List Call) : Type 0 where
   -- a line goes only by a strike of that line or by clear
   pub lines-stay : (call : Call) → Lawful call → (line : Line) → InBook line (reached calls .book)
       → InBook line (after (reached calls) call .book) ⊎ Removes call line (reached calls .book)
+  -- A walk tells the truth: if the set that it was opened at holds at some state of a model, then the set of some goal that waits
+  -- holds at some state of the same model; so where the walk is closed there is no such state
+  pub walk-tells : (opened : ℕ) (walk : Walk) → reached calls .walk ≡ present opened walk → (m : Model) → Serial m
+      → (t : ℕ) → SetHolds (reached calls .table) m opened t → Among (λ g. (u : ℕ) × SetHolds (reached calls .table) m (g .set) u) (waiting walk)
   -- Nothing is lost or made up: the table's forms are those that accepted calls of form and load brought since the making or the last clear, in order and as stored;
   pub table-is-brought : reached calls .table ≡ brought (history calls)
   -- every refutation can be brought by calls of open, node and enter;
