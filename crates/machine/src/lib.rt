@@ -16,6 +16,3 @@ pub use rejection::Rejection;
 pub use rejection::SheetError;
 pub use sheet::Sheet;
 pub use timer::Timer;
-
-#[cfg(test)]
-mod tests;

@@ -2,8 +2,6 @@
 mod contents;
 pub mod part;
 pub mod reader;
-#[cfg(test)]
-mod tests;
 
 pub use part::Part;
 pub use reader::Closed;

@@ -9,8 +9,6 @@ pub mod phase;
 mod repeat;
 mod sets;
 mod steps;
-#[cfg(test)]
-mod tests;
 mod treat;
 pub mod walk;
 

@@ -1,15 +1,15 @@
 // Machines by example. A body is written by rows of up to two offsets.
-use crate::interface::Machine;
-use crate::mask::Masked;
-use crate::mask::MaskedMachine;
-use crate::product::Product;
-use crate::product::ProductMachine;
-use crate::product::pair_count;
-use crate::rejection::SheetError;
-use crate::sheet::Sheet;
-use crate::sheet::SheetMachine;
-use crate::timer::Timer;
-use crate::timer::TimerMachine;
+use machine::interface::Machine;
+use machine::mask::Masked;
+use machine::mask::MaskedMachine;
+use machine::product::Product;
+use machine::product::ProductMachine;
+use machine::product::pair_count;
+use machine::rejection::SheetError;
+use machine::sheet::Sheet;
+use machine::sheet::SheetMachine;
+use machine::timer::Timer;
+use machine::timer::TimerMachine;
 use std::alloc::AllocError;
 use std::alloc::Global;
 use std::test::*;

@@ -1,7 +1,7 @@
 // Files that are listed, and files that are refused.
-use crate::part::Part;
-use crate::reader::Fresh;
-use crate::reader::Listed;
+use modefile::part::Part;
+use modefile::reader::Fresh;
+use modefile::reader::Listed;
 use std::test::*;
 
 // The refusal that a file meets and the contents line, or zeros.

@@ -1,7 +1,7 @@
 // Walks through whole trees, and the longest path.
-use crate::walk::Walk;
 use forms::Table;
 use std::test::*;
+use walk::walk::Walk;
 
 // Truth, falsity, atom 0 and its absence, A(0 U 2), E(1 R 3), AX 4, EX 5.
 fn filled() -> Table {
