@@ -30,7 +30,7 @@ use Rattle.protocol.specs.Runs.{Lawful}
 use Rattle.protocol.specs.Promises.{HoldsNowhere}
 use Rattle.protocol.specs.Invariant.{TrueLine, Sound}
 use Rattle.protocol.proofs.BookLines.{all-standing}
-use Rattle.protocol.proofs.Keeping.{after-sound}
+use Rattle.protocol.proofs.Keeping.{made-sound, after-sound}
 use Rattle.register.specs.Books.{placeGiven, linesAfter, linesStruck}
 use Rattle.register.specs.Answers.{told, Truly}
 
@@ -108,3 +108,7 @@ module _ (s : State) (root : ℕ) (closed : finished (s .walk) ≡ Ok root) (fre
           ≡ stateOf s (given b BookFull (taken (length (s .book) ∷ []) (withWalk (withLine s root Impossible) absent)))
       go true e = refl
       go false e = absurd (taken-not-full place e)
+
+-- an empty register is sound
+pub empty-sound : (s : State) → s .table ≡ [] → s .book ≡ [] → s .walk ≡ absent → Sound s
+empty-sound s table book walk = subst Sound (λ i. record { table = sym table i; book = sym book i; walk = sym walk i }) made-sound

@@ -13,6 +13,6 @@ ghost-self-2 c =
     let set = c .in-Continue-set .set in
     let free : isFree (standing (s .book) set) ≡ true = ap isFree (sym (c .standing .ensures)) ∙ free-of (c .standing .result) (sym (c .is-some .ensures) ∙ c .if-is-some .left) in
     let after =
-    entered-state s set (sym (c .in-Continue-set .ensures tt)) free (c .in-Continue-line .line) _ _ (c .in-Continue-line .ensures tt .place) (c .add .ensures .after)
+    entered-state s set (sym (c .in-Continue-set .ensures tt)) free (c .in-Continue-line .line) _ _ (c .in-Continue-line .ensures tt .place) (cc)
     (c .abandon .ensures .after ∙ none-left (s .walk)) in
     (kept-by s _ enter tt after (self .sound), tt)

@@ -1,11 +1,9 @@
-use mathlib.Core.Path.{ap, _∙_}
-use mathlib.Core.List.{List}
+use mathlib.Core.Path.{_≡_}
 use lib.ListN.{length}
 use borrow.Author.Needs.{needs}
-use Rattle.forms.specs.declared.form.Form.{Form}
-use Rattle.forms.specs.Tables.{accepted}
+use Rattle.forms.specs.Tables.{formsOf, accepted}
 use Rattle.protocol.specs.State.{withTable}
-use Rattle.protocol.specs.Calls.{form}
+use Rattle.protocol.specs.Calls.{form, after}
 use Rattle.register.specs.View.{view}
 use Rattle.register.proofs.Kept.{kept-by, formed-state}
 use Rattle.register.proofs.register.Register.form.Needs as need
@@ -15,5 +13,6 @@ ghost-self c =
     let self = c .args .self .now in
     let s = view self in
     let result = accepted (length (s .table)) (c .args .kind) (c .args .a) (c .args .b) in
-    let after = ap (λ (T : List Form). withTable s T) (c .add .ensures .after) ∙ formed-state s result in
-    (kept-by s _ (form (c .args .kind) (c .args .a) (c .args .b)) (search needs, search needs, search needs) after (self .sound), tt)
+    let moved = formed-state s result in
+    let later : withTable s (formsOf (c .add .last .self)) ≡ after s (form (c .args .kind) (c .args .a) (c .args .b)) = cc in
+    (kept-by s _ (form (c .args .kind) (c .args .a) (c .args .b)) (search needs, search needs, search needs) later (self .sound), tt)

@@ -57,6 +57,6 @@ returns-in-Err-finish-tree c =
       answer = ap answerOf (sym outcome);
       after =
           put-back s (view (c .open .last .self)) (view (c .finish-tree .last .self)) _ (opened .0) at-open (finish .1)
-          (c .abandon .ensures .after ∙ abandon-walk-alone (view (c .finish-tree .last .self)))
+          (let gone = abandon-walk-alone (view (c .finish-tree .last .self)) in cc)
           ∙ ap (stateOf s) (sym outcome);
     }

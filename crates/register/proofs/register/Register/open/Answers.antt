@@ -15,7 +15,7 @@ ghost-self c =
     let self = c .args .self .now in
     let s = view self in
     let set = c .args .set in
-    let inside : within (s .table) set ≡ true = sym (c .has-all .ensures) ∙ c .if-not-has-all .left in
+    let inside : within (s .table) set ≡ true = cc in
     let after =
     ap (λ (p : Progress). withWalk s p) (c .open .ensures .after) ∙ walked-state s (opened (s .walk) set)
     ∙ ap (λ (b : Bool). stateOf s (given b SetBeyondTable (walked s (opened (s .walk) set)))) (sym inside) in

@@ -13,6 +13,7 @@ use Rattle.protocol.specs.declared.line.Line.{Line}
 use Rattle.protocol.specs.State.{State, withBook}
 use Rattle.protocol.specs.Calls.{Outcome, ok, show, held, shown, onShow, after, answerOf, stateOf}
 use Rattle.protocol.proofs.Marks.{held-tells}
+use Rattle.register.specs.Books.{linesOf, noted}
 use Rattle.register.specs.View.{view}
 use Rattle.register.specs.declared.showing.Shown.{Shown}
 use Rattle.register.specs.Shows.{toldShown, Buffers}
@@ -51,7 +52,7 @@ part-held g c =
 
 -- the register after the show
 state-after : (g : _) (c : need.After-note g)
-    → record { table = view (c .args .self .now) .table; book = Rattle.register.specs.Books.linesOf (c .note .last .self); walk = view (c .args .self .now) .walk }
+    → record { table = view (c .args .self .now) .table; book = linesOf (c .note .last .self); walk = view (c .args .self .now) .walk }
     ≡ after (view (c .args .self .now)) (show (c .args .set) (c .args .state) (g .M·Machine .model (c .args .machine .now)) (length (c .args .marks .now)) (length (c .args .scratch .now)))
 state-after g c =
     let s = view (c .args .self .now) in
@@ -62,7 +63,8 @@ state-after g c =
     let scratch = length (c .args .scratch .now) in
     let x = c .in-Continue-showable .field-0 in
     let is = c .in-Continue-showable .ensures tt in
-    ap (λ (lines : List Line). withBook s lines) (c .note .ensures)
+    let joins : linesOf (c .note .last .self) ≡ noted (s .book) set (bitAnd set (getD (c .label .last .marks) state 0)) = cc in
+    ap (λ (lines : List Line). withBook s lines) joins
     ∙ noted-state s set (bitAnd set (getD (c .label .last .marks) state 0)) (room-for s set state (c .count .result) marks scratch x is)
     ∙ ap (shown s set) (part-held g c)
     ∙ ap (stateOf s) (show-taken s set state m marks scratch (c .count .result) (c .count .ensures) x is)
@@ -81,14 +83,14 @@ pub returns : need.returns
 returns g c =
     let s = view (c .args .self .now) in
     let m = g .M·Machine .model (c .args .machine .now) in
-    let noted = need.at·returns g c .After-note in
+    let done = need.at·returns g c .After-note in
     let labelled = c .in-Continue-rounds .ensures tt .1 in
     let outcome =
     show-taken s (c .args .set) (c .args .state) m (length (c .args .marks .now)) (length (c .args .scratch .now)) (c .count .result) (c .count .ensures) (c .in-Continue-showable .field-0)
     (c .in-Continue-showable .ensures tt) in
     record {
-      answer = (λ i. ok (part-held g noted i ∷ labelled .counted i ∷ [])) ∙ ap answerOf outcome;
-      after = state-after g noted;
+      answer = (λ i. ok (part-held g done i ∷ labelled .counted i ∷ [])) ∙ ap answerOf outcome;
+      after = state-after g done;
       buffers = labelled;
       held-tells = held-tells;
     }

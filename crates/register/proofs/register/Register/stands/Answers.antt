@@ -5,7 +5,7 @@ use Rattle.register.proofs.register.Register.stands.Needs as need
 
 pub returns : need.returns
 returns c = record {
-  value = c .standing .ensures;
-  truth = stands-truly (view (c .args .self .now)) (c .args .set) (c .standing .result) (c .standing .ensures) (c .args .self .now .sound);
+  value = cc;
+  truth = stands-truly (view (c .args .self .now)) (c .args .set) (c .standing .result) (cc) (c .args .self .now .sound);
   promises = promises;
 }
