@@ -19,7 +19,7 @@ use Rattle.forms.specs.declared.form.Form.the-variants.{Truth, Falsity, Atom, A
 use Rattle.forms.specs.Forms.{Table, WellFormed, form}
 use Rattle.forms.specs.Meaning.{formula, SetHolds}
 use Rattle.tableau.proofs.Untils.{AtSuccessors, Reach}
-use Rattle.tableau.proofs.Reading.{formula-of}
+use Rattle.forms.proofs.Reading.{formula-of}
 use Rattle.tableau.proofs.Live.{Has, Within, WithinForm, Beyond}
 
 dec-× : {A B : Type 0} → Dec A → Dec B → Dec (A × B)

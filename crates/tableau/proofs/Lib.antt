@@ -1,6 +1,5 @@
 pub mod SetLaws
 pub mod NextSets
-pub mod Reading
 pub mod Untils
 pub mod Releases
 pub mod Live

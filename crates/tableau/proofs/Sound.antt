@@ -34,7 +34,7 @@ use Rattle.tableau.specs.Allowed.{In, Repeats, here, higher, Rule, by-clash, b
 use Rattle.tableau.proofs.Untils.{AtSuccessors, Reach, some-until, every-until}
 use Rattle.tableau.proofs.NextSets.{every-member}
 use Rattle.tableau.proofs.SetLaws.{inserted, kept, member-contained}
-use Rattle.tableau.proofs.Reading.{formula-of}
+use Rattle.forms.proofs.Reading.{formula-of}
 use Rattle.tableau.proofs.Live.{Has, Within, WithinForm, AheadForm, Beyond, Fresh, FocusMet, Live, SomeLive}
 use Rattle.tableau.proofs.Decide.{least}
 use Rattle.tableau.proofs.Releases.{some-release, every-release}
