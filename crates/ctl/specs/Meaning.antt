@@ -1,5 +1,5 @@
 -- What a formula means at a state, by paths.
-use Rattle.std.specs.Prelude.{◌≡◌, ℕ, ◌/◌, ◌%◌, ◌^◌, ◌<◌, ◌≤◌, Bool, true, false, ◌⊎◌}
+use Rattle.std.specs.Prelude.{◌≡◌, ℕ, ◌/◌, ◌%◌, ◌^◌, ◌<◌, true, ◌⊎◌}
 use Rattle.ctl.specs.Model.{Model, Path}
 use Rattle.ctl.specs.Formula.{Formula, verum, falsum, atom, absent, both, either, EX, AX, EU, AU, ER, AR}
 

@@ -1,3 +1,5 @@
+#![tactic(auto)]
+
 // The rules by example: tests of the crates below, in a crate of their own so that those are not proved twice.
 #[cfg(test)]
 mod files;

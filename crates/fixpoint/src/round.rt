@@ -18,7 +18,7 @@ pub trait Round {
 
     // Whether i is in the round of the current set.
     fn holds<S: SetPair>(&self, i: usize, sets: &S) -> bool
-        requires i_bound { i < size self.now }
-        requires self_bound { size self.now ≤ S.SetPair.room sets.now }
+        requires in_round { i < size self.now }
+        requires roomy { size self.now ≤ S.SetPair.room sets.now }
         ensures { result ≡ step self.now (S.SetPair.given (S.SetPair.rest sets.now)) (S.SetPair.current sets.now) i };
 }

@@ -1,5 +1,5 @@
 -- A set has no form from n on just where it is below 2 ^ n.
-use Rattle.std.proofs.Common.{◌≡◌, ℕ, ◌+◌, ◌-◌, ◌*◌, ◌/◌, ◌%◌, ◌^◌, ◌<◌, ◌≤◌, true, false, eqb, ltb, ◌⊎◌, List, length, sym, ap, ◌∙◌, inl, inr, mod-lt, mul-zero, arith}
+use Rattle.std.proofs.Common.{◌≡◌, ℕ, ◌+◌, ◌-◌, ◌*◌, ◌/◌, ◌%◌, ◌^◌, ◌<◌, ◌≤◌, true, eqb, ltb, ◌⊎◌, List, length, sym, ap, ◌∙◌, inl, inr, mod-lt, mul-zero, arith}
 use native.Mathlib.Nat.{div-eq_of_lt, div-add-mod}
 use Rattle.std.proofs.lemmas.Nat.{shr-shr, pow_pos}
 use Rattle.std.proofs.lemmas.Bool.{cases_lt, both_ways, eq-eqb, ne_eqb, lt-ltb, le-ltb, ltb-true}

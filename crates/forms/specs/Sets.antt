@@ -1,5 +1,5 @@
 -- Sets of forms as numbers: form f is in the set s when bit f of s is set.
-use Rattle.std.specs.Prelude.{◌≡◌, ℕ, ◌/◌, ◌%◌, ◌^◌, Bool, true, not, ◌&&◌, ◌||◌, ◌↔◌, List, length, ◌==◌, bit_and, bit_or, bit_xor, nat_lt}
+use Rattle.std.specs.Prelude.{ℕ, ◌/◌, ◌%◌, ◌^◌, Bool, List, length, ◌==◌, bit_and, bit_or, bit_xor, nat_lt}
 use Rattle.forms.specs.declared.form.Form.{Form}
 
 -- whether f is in s

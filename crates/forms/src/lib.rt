@@ -1,4 +1,6 @@
 // Forms, the table that keeps them, and why a call is refused.
+#![tactic(auto)]
+
 mod calls;
 pub mod form;
 mod guard;

@@ -1,5 +1,5 @@
 -- A number with one bit changed.
-use Rattle.std.proofs.Common.{◌≡◌, ℕ, ◌+◌, ◌-◌, ◌*◌, ◌/◌, ◌%◌, ◌^◌, ◌<◌, ◌≤◌, Bool, true, false, cond, eqb, ◌⊎◌, sym, refl, ap, ◌∙◌, ap₂, ⊎_elim, add-zero, add_assoc, mul-le-mul_right, add_comm, arith, pow_mono, pow-add}
+use Rattle.std.proofs.Common.{◌≡◌, ℕ, ◌+◌, ◌-◌, ◌*◌, ◌/◌, ◌%◌, ◌^◌, ◌<◌, ◌≤◌, Bool, true, false, cond, eqb, sym, refl, ap, ◌∙◌, ap₂, ⊎_elim, add-zero, add_assoc, mul-le-mul_right, add_comm, arith, pow_mono, pow-add}
 use native.Mathlib.Nat.{div-eq_of_lt}
 use Rattle.std.proofs.lemmas.Nat.{pow_pos, shr_split, shr-shr, mod-pow-add, field_of, div-mul-add, mod-mul-add, mod_below, shr_below}
 use Rattle.std.proofs.lemmas.Bool.{eqb-true, eqb-false, cases_lt}

@@ -16,10 +16,10 @@ use machine::interface::Machine;
 
 // Marks form number `form` at the states that its round comes to rest at, and says how many rounds that took.
 fn settle<R: Round>(round: &R, marks: &mut [u64], scratch: &mut [u8], form: u8, all: bool) -> usize
-    requires round_in_bounds { R.Round.size round.now ≤ length marks.old }
-    requires round_in_bounds_2 { R.Round.size round.now ≤ length scratch.old }
-    requires round_bound { R.Round.size round.now < 2 ^ 63 }
-    requires form_bound { form < 64 }
+    requires marks_hold { R.Round.size round.now ≤ length marks.old }
+    requires scratch_holds { R.Round.size round.now ≤ length scratch.old }
+    requires few_states { R.Round.size round.now < 2 ^ 63 }
+    requires form_fits { form < 64 }
     ensures settled { IsSettled (R.Round.size round.now) (R.Round.step round.now (earlier_marks marks.old form)) all (column marks.new form) result }
     ensures others { other_bits marks.new form ≡ other_bits marks.old form }
     ensures beyond { Untouched (R.Round.size round.now) marks.old marks.new }
@@ -35,9 +35,9 @@ fn settle<R: Round>(round: &R, marks: &mut [u64], scratch: &mut [u8], form: u8, 
 
 // Marks form number `form` at the states that its round makes at once.
 fn spread<R: Round>(round: &R, marks: &mut [u64], scratch: &mut [u8], form: u8)
-    requires round_in_bounds { R.Round.size round.now ≤ length marks.old }
-    requires round_in_bounds_2 { R.Round.size round.now ≤ length scratch.old }
-    requires form_bound { form < 64 }
+    requires marks_hold { R.Round.size round.now ≤ length marks.old }
+    requires scratch_holds { R.Round.size round.now ≤ length scratch.old }
+    requires form_fits { form < 64 }
     requires blind { IsBlind (R.Round.step round.now (earlier_marks marks.old form)) }
     ensures made { Same (R.Round.size round.now) (column marks.new form) (R.Round.step round.now (earlier_marks marks.old form) (start false)) }
     ensures others { other_bits marks.new form ≡ other_bits marks.old form }
@@ -77,9 +77,9 @@ fn mark_form<M: Machine>(
     scratch: &mut [u8],
     f: u8,
 ) -> usize
-    requires machine_in_bounds { (M.Machine.model machine.now).count ≤ length marks.old }
-    requires machine_in_bounds_2 { (M.Machine.model machine.now).count ≤ length scratch.old }
-    requires f_bound { f < 64 }
+    requires marks_hold { (M.Machine.model machine.now).count ≤ length marks.old }
+    requires scratch_holds { (M.Machine.model machine.now).count ≤ length scratch.old }
+    requires form_fits { f < 64 }
     ensures marked { IsMarked (M.Machine.model machine.now) (earlier_marks marks.old f) form (column marks.new f) result }
     ensures others { other_bits marks.new f ≡ other_bits marks.old f }
     ensures beyond { Untouched (M.Machine.model machine.now).count marks.old marks.new }
@@ -117,9 +117,9 @@ pub fn mark_table<M: Machine>(
     scratch: &mut [u8],
 ) -> usize
     requires well_formed { IsWellFormed table.now }
-    requires table_len_bound { length table.now ≤ 64 }
-    requires machine_in_bounds { (M.Machine.model machine.now).count ≤ length marks.old }
-    requires machine_in_bounds_2 { (M.Machine.model machine.now).count ≤ length scratch.old }
+    requires few_forms { length table.now ≤ 64 }
+    requires marks_hold { (M.Machine.model machine.now).count ≤ length marks.old }
+    requires scratch_holds { (M.Machine.model machine.now).count ≤ length scratch.old }
     ensures { IsLabelled table.now (M.Machine.model machine.now) result marks.old marks.new scratch.old scratch.new }
 {
     let n = machine.count();

@@ -1,9 +1,9 @@
 -- A line for each command.
-use Rattle.std.proofs.Common.{◌≡◌, ℕ, ◌+◌, ◌*◌, ◌^◌, ◌<◌, ◌≤◌, List, [], ◌∷◌, ◌++◌, length, decimal, refl, arith, length-append}
+use Rattle.std.proofs.Common.{ℕ, ◌*◌, ◌≤◌, List, [], ◌∷◌, length, decimal, refl, arith, length-append}
 use Rattle.std.proofs.lemmas.Fmt.{length-decimal-le}
 use Rattle.lines.specs.declared.command.Command.{Command}
 use Rattle.lines.specs.declared.command.Command.TheVariants.{Form, Open, Node, Enter, Abandon, Strike, Clear, Stands, Read, Show}
-use Rattle.lines.specs.Grammar.{WritesNumbers, Asks, Says, IsSayable, SayableIsAskable, byte_of}
+use Rattle.lines.specs.Grammar.{WritesNumbers, Asks, Says, SayableIsAskable, byte_of}
 use Rattle.lines.specs.Replies.{spaced_numbers, AreWide}
 use Rattle.lines.proofs.Lines.{WritesNumbers-spaced_numbers}
 

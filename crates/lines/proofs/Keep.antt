@@ -1,10 +1,10 @@
 -- The first bytes of a line are enough.
-use Rattle.std.proofs.Common.{◌≡◌, ℕ, ◌+◌, ◌-◌, ◌<◌, ◌≤◌, min, Bool, true, false, cond, ◌⊎◌, List, [], ◌∷◌, ◌++◌, length, take, is_ok, IfOk, Ok, Err, Result, sym, refl, ap, ◌∙◌, subst, inl, inr, append-nil, arith, length-take}
+use Rattle.std.proofs.Common.{◌≡◌, ℕ, ◌+◌, ◌-◌, ◌≤◌, min, Bool, true, false, cond, List, [], ◌∷◌, ◌++◌, length, take, is_ok, IfOk, Ok, Err, Result, sym, ap, ◌∙◌, subst, inl, inr, append-nil, arith, length-take}
 use lib.Seq.{take-append-le, take-append-add}
 use Rattle.std.proofs.lemmas.List.{take_all}
 use Rattle.std.proofs.lemmas.Bool.{cases_lt}
 use Rattle.lines.specs.declared.command.Command.{Command}
-use Rattle.lines.specs.Grammar.{Asks, Says}
+use Rattle.lines.specs.Grammar.{Asks}
 use Rattle.lines.specs.Kept.{KeptTells}
 
 Asks_short : (line : List ℕ) (c : Command) → Asks line c → length line ≤ 100

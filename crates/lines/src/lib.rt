@@ -1,4 +1,6 @@
 // The language of lines: commands read, replies written.
+#![tactic(auto)]
+
 mod command;
 mod input;
 mod number;

@@ -4,6 +4,7 @@ ghost use Rattle.forms.specs.Refusals.{NumbersDiffer};
 ghost use Rattle.lines.specs.Replies.{reply_line, reply_text, LineDeterminesReply, ReadsBack};
 
 use forms::Refusal;
+use std::alloc::AllocError;
 use std::fmt;
 
 #[derive(Clone, Copy)]
@@ -44,7 +45,7 @@ impl fmt::Display for Reply {
 }
 
 // Puts the reply's line, with its line feed, in place of what `line` holds, whose memory is used again.
-pub fn put_reply(line: &mut String, reply: Reply) -> fmt::Result
+pub fn put_reply(line: &mut String, reply: Reply) -> Result<(), AllocError>
     ensures bytes { OnOk result (string_bytes line.new ≡ reply_line reply) }
     ensures determined { LineDeterminesReply }
     ensures numbers_differ { NumbersDiffer }

@@ -1,4 +1,6 @@
 // Machines: finite transition systems behind one interface, and the layers that build them.
+#![tactic(auto)]
+
 pub mod interface;
 pub mod mask;
 pub mod product;

@@ -1,4 +1,6 @@
 // Files of parts: a reader is fresh, then listed, then closed, and hands out parts only while it is listed.
+#![tactic(auto)]
+
 mod contents;
 pub mod part;
 pub mod reader;

@@ -1,12 +1,12 @@
 -- What stays true of a set when forms join the table.
-use Rattle.std.proofs.Common.{◌≡◌, ℕ, zero, suc, ◌^◌, ◌<◌, ◌≤◌, true, [], ◌∷◌, ◌++◌, length, sym, refl, ap, ◌∙◌, subst, arith, pow_mono}
+use Rattle.std.proofs.Common.{◌≡◌, ℕ, zero, suc, ◌^◌, ◌<◌, ◌≤◌, true, ◌++◌, length, sym, refl, ap, ◌∙◌, subst, arith, pow_mono}
 use Rattle.std.proofs.lemmas.List.{length-append}
 use Rattle.std.proofs.lemmas.Bool.{ltb-true, lt-ltb}
 use Rattle.ctl.specs.Model.{Model}
 use Rattle.ctl.specs.Meaning.{Holds}
 use Rattle.forms.specs.Forms.{Table, form, IsWellFormed}
 use Rattle.forms.specs.Meaning.{reading, formula_at_depth, formula, SetHolds}
-use Rattle.forms.specs.Sets.{member, is_within}
+use Rattle.forms.specs.Sets.{is_within}
 use Rattle.forms.proofs.Reading.{reading_same}
 use Rattle.forms.proofs.SetsWithin.{is_within_below}
 use Rattle.tableau.proofs.Grow.{form_grows}

@@ -1,17 +1,14 @@
 -- Each call keeps what holds of a register.
-use Rattle.std.proofs.Common.{◌≡◌, ℕ, ◌<◌, ◌≤◌, Bool, true, false, List, [], ◌∷◌, ◌++◌, length, None, Ok, sym, refl, ap, ◌∙◌, subst, arith}
+use Rattle.std.proofs.Common.{◌≡◌, ℕ, ◌<◌, true, [], ◌∷◌, ◌++◌, length, None, subst, arith}
 use Rattle.std.proofs.lemmas.List.{length_push}
 use Rattle.ctl.specs.Model.{Model}
-use Rattle.forms.specs.declared.form.Form.{Form}
 use Rattle.forms.specs.Bodies.{records}
-use Rattle.forms.specs.Forms.{Table, IsWellFormed, IsLawful}
+use Rattle.forms.specs.Forms.{Table, IsWellFormed}
 use Rattle.forms.specs.Sets.{is_within}
-use Rattle.forms.specs.Tables.{accepted_form}
 use Rattle.forms.proofs.Formed.{IsWellFormed_grown}
 use Rattle.forms.proofs.Accepting.{Earlier_accepted, accepted_room}
 use Rattle.forms.proofs.SetsWithin.{is_within_below}
 use Rattle.machine.specs.Interface.{IsSound as IsSoundMachine}
-use Rattle.tableau.specs.declared.goals.Step.{Step}
 use Rattle.tableau.specs.Walk as Walk
 use Rattle.tableau.specs.Walk.{start, Run}
 use Rattle.tableau.proofs.Walking.{Run-append, closed_walk_refutes}
@@ -20,11 +17,11 @@ use Rattle.walk.specs.Progress.{Progress, absent, present}
 use Rattle.protocol.specs.declared.line.Standing.{Standing}
 use Rattle.protocol.specs.declared.line.Standing.TheVariants.{Impossible, Possible}
 use Rattle.protocol.specs.declared.line.Line.{Line}
-use Rattle.protocol.specs.State.{State, made_state, most_lines, standing, with_table, with_book, with_walk, with_line, without}
+use Rattle.protocol.specs.State.{State, made_state, most_lines, standing, with_book, with_walk, with_line, without}
 use Rattle.protocol.specs.Bodies.{Body, forms_body, tree_body, set_of, steps_of}
 use Rattle.protocol.specs.Calls.{Call, form, open_at, node, enter, abandon, show, strike, clear, load, Outcome, on_form, on_open, on_node, on_enter, on_show, load_forms, load_tree, on_load, outcome, state_after}
 use Rattle.protocol.specs.Runs.{IsLawful as IsLawfulCall}
-use Rattle.protocol.specs.Invariant.{Tells, IsTrueLine, AllLines, IsDistinct, IsWalked, IsSound}
+use Rattle.protocol.specs.Invariant.{Tells, IsTrueLine, IsWalked, IsSound}
 use Rattle.protocol.proofs.Growing.{is_within_grows, holds_more, SetHolds_less}
 use Rattle.protocol.proofs.Marks.{held_part-SetHolds}
 use Rattle.protocol.proofs.BookLines.{all_push, all_without, AllLines_map, IsDistinct_push, IsDistinct-without, length_without}

@@ -16,7 +16,6 @@ use Rattle.tableau.specs.Walk.{Walk, start}
 use Rattle.walk.specs.Progress.{Progress, absent, present, progress_after, open_result, step_result, abandon_result, finish_result}
 use Rattle.protocol.specs.declared.line.Standing.{Standing}
 use Rattle.protocol.specs.declared.line.Standing.TheVariants.{Impossible, Possible}
-use Rattle.protocol.specs.declared.line.Line.{Line}
 use Rattle.protocol.specs.State.{State, most_lines, standing, is_free, with_table, with_book, with_walk, with_line, without}
 use Rattle.protocol.specs.Calls.{form_outcome, on_form, walk_outcome, on_open, on_node, enter_outcome, on_enter, on_abandon, held_part, on_show, on_strike, form_on, node_on, count_forms, load_forms, load_tree, in_turn}
 use Rattle.protocol.proofs.Outcomes.{Leaves, Leaves-outcome_given, leaves_at, Leaves-and_then, Leaves-in_turn}

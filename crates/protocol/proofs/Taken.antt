@@ -5,7 +5,7 @@ use Rattle.forms.specs.declared.refusal.Refusal.TheVariants.{SetBeyondTable, NoS
 use Rattle.forms.specs.Sets.{is_within}
 use Rattle.tableau.specs.declared.goals.Step.{Step}
 use Rattle.tableau.specs.Steps.{step_of, numbers_of}
-use Rattle.tableau.specs.Statements.{InBytes, AllInBytes}
+use Rattle.tableau.specs.Statements.{AllInBytes}
 use Rattle.tableau.specs.Walk as Walk
 use Rattle.tableau.specs.Walk.{Walk, start, Run}
 use Rattle.tableau.specs.Tree.{Tree, steps}

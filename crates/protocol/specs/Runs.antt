@@ -1,5 +1,5 @@
 -- Runs of calls from the making of a register on.
-use Rattle.std.specs.Prelude.{ℕ, ◌^◌, ◌<◌, ◌≤◌, List, [], ◌∷◌, ◌++◌, Some, None, Option}
+use Rattle.std.specs.Prelude.{ℕ, ◌^◌, ◌<◌, List, [], ◌∷◌, ◌++◌, Some, None, Option}
 use Rattle.forms.specs.declared.form.Form.{Form}
 use Rattle.forms.specs.Bodies.{Record, records}
 use Rattle.forms.specs.Forms.{Table, form_of}

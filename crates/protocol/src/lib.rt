@@ -1,4 +1,6 @@
 // What the register's calls mean, and what is promised of every run of them (mathematics).
+#![tactic(auto)]
+
 pub mod line;
 
 ghost use Rattle.protocol.specs.Promises.{Promises, HeldTells};

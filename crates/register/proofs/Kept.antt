@@ -14,7 +14,7 @@ use Rattle.protocol.specs.declared.line.Line.{Line}
 use Rattle.protocol.specs.declared.line.Standing.{Standing}
 use Rattle.protocol.specs.declared.line.Standing.TheVariants.{Impossible, Possible}
 use Rattle.protocol.specs.State.{State, most_lines, standing, is_free, with_line, with_table, with_book, with_walk, without}
-use Rattle.protocol.specs.Calls.{Call, enter, Outcome, taken, declined, outcome_given, form_outcome, walk_outcome, enter_outcome, on_strike, answer_of, state_of, state_after}
+use Rattle.protocol.specs.Calls.{Call, enter, taken, outcome_given, form_outcome, walk_outcome, enter_outcome, on_strike, answer_of, state_of, state_after}
 use Rattle.protocol.specs.Runs.{IsLawful}
 use Rattle.protocol.specs.Promises.{HoldsNowhere}
 use Rattle.protocol.specs.Invariant.{IsTrueLine, IsSound}

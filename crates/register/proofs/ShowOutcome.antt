@@ -1,5 +1,5 @@
 -- What a show comes to, by whether it is taken.
-use Rattle.std.proofs.Common.{◌≡◌, ℕ, ◌<◌, Bool, true, false, cond, not, ◌&&◌, ◌||◌, eqb, ltb, leb, List, [], ◌∷◌, ◌++◌, length, Ok, Err, Result, sym, refl, ap, ◌∙◌, arith}
+use Rattle.std.proofs.Common.{◌≡◌, ℕ, ◌<◌, Bool, true, false, cond, not, ◌&&◌, ◌||◌, eqb, ltb, leb, [], ◌∷◌, ◌++◌, length, Ok, Err, Result, sym, refl, ap, ◌∙◌, arith}
 use Rattle.std.proofs.lemmas.Bool.{and_parts, both_ways, ltb-true}
 use Rattle.ctl.specs.Model.{Model}
 use Rattle.forms.specs.declared.refusal.Refusal.{Refusal}
@@ -7,7 +7,6 @@ use Rattle.forms.specs.declared.refusal.Refusal.TheVariants.{SetBeyondTable, Sta
 use Rattle.forms.specs.Sets.{is_within}
 use Rattle.forms.specs.Tables.{result_given}
 use Rattle.label.specs.Show.{rounds_of}
-use Rattle.protocol.specs.declared.line.Line.{Line}
 use Rattle.protocol.specs.declared.line.Standing.TheVariants.{Possible}
 use Rattle.protocol.specs.State.{State, most_lines, standing, is_free, with_book, with_line}
 use Rattle.protocol.specs.Calls.{Outcome, taken, declined, outcome_given, held_part, state_shown, on_show}

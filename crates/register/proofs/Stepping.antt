@@ -1,5 +1,5 @@
 -- A tree body, step by step.
-use Rattle.std.proofs.Common.{◌≡◌, ℕ, suc, ◌+◌, ◌<◌, ◌≤◌, List, [], ◌∷◌, length, get_or, drop, Ok, Err, Result, sym, refl, ap, ◌∙◌, arith}
+use Rattle.std.proofs.Common.{◌≡◌, ℕ, suc, ◌<◌, ◌≤◌, List, [], ◌∷◌, length, get_or, drop, Ok, Err, Result, sym, refl, ap, ◌∙◌, arith}
 use Rattle.forms.specs.declared.refusal.Refusal.{Refusal}
 use Rattle.walk.specs.Progress.{Progress, step_result}
 use Rattle.protocol.specs.State.{State, with_walk}

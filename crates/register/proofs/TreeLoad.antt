@@ -1,5 +1,5 @@
 -- Loading a body: open, and what the steps and enter come to; what a caller of a forms body brings.
-use Rattle.std.proofs.Common.{◌≡◌, ℕ, suc, Bool, true, false, List, [], ◌∷◌, get_or, Ok, Err, Result, sym, refl, ap, ◌∙◌, arith, w8, Fits}
+use Rattle.std.proofs.Common.{◌≡◌, ℕ, suc, Bool, true, false, List, [], ◌∷◌, get_or, Ok, Err, Result, sym, refl, ap, ◌∙◌, w8, Fits}
 use Rattle.forms.specs.declared.refusal.Rejected.{Rejected}
 use Rattle.forms.specs.declared.refusal.Refusal.{Refusal}
 use Rattle.forms.specs.declared.refusal.Refusal.TheVariants.{BodyLength, SetBeyondTable}

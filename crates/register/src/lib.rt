@@ -1,4 +1,6 @@
 // The register: a table of forms, a book of what is known of their sets, and a walk.
+#![tactic(auto)]
+
 pub mod body;
 mod book;
 mod calls;

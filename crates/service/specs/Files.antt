@@ -8,7 +8,7 @@ use Rattle.machine.specs.Faults.{sheet_fault}
 use Rattle.machine.specs.Mask.{masked_model}
 use Rattle.machine.specs.Sheet.{sheet}
 use Rattle.modefile.specs.Contents.{count, kind_at, length_at, place_at, fault}
-use Rattle.protocol.specs.Bodies.{Body, forms_body, tree_body}
+use Rattle.protocol.specs.Bodies.{forms_body, tree_body}
 use Rattle.protocol.specs.Calls.{Outcome, taken, declined, outcome, load}
 use Rattle.service.specs.Kept.{Kept, with_register, with_sheet}
 

@@ -12,7 +12,7 @@ use Rattle.lines.specs.Grammar.{Asks, IsUnderstood}
 use Rattle.lines.specs.Replies.{reply_line}
 use Rattle.protocol.specs.declared.line.Standing.{Standing}
 use Rattle.protocol.specs.declared.line.Standing.TheVariants.{Impossible, Possible}
-use Rattle.protocol.specs.State.{State, standing}
+use Rattle.protocol.specs.State.{standing}
 use Rattle.protocol.specs.Calls.{Call, form, open_at, node, enter, abandon, show, strike, clear, Answer, ok, refused, answer, state_after}
 use Rattle.service.specs.Kept.{Kept, with_register}
 use Rattle.service.specs.Files.{HasSheet, reading}

@@ -34,10 +34,7 @@ impl Service {
             Ok(command) => self.perform(command, file)?,
             Err(refusal) => Reply::Refused(refusal),
         };
-        match put_reply(out, reply) {
-            Ok(()) => Ok(()),
-            Err(_) => Err(AllocError),
-        }
+        put_reply(out, reply)
     }
 
     // Does what the command asks for.

@@ -1,4 +1,6 @@
 // The service: one line in, one reply out, over one register.
+#![tactic(auto)]
+
 mod calls;
 mod files;
 pub mod service;

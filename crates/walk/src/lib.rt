@@ -1,4 +1,6 @@
 // The walk through a tree of goals: the step function, and the calls of a walk.
+#![tactic(auto)]
+
 mod advance;
 mod calls;
 mod decode;

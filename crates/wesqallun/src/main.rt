@@ -1,4 +1,6 @@
 // Reads lines from standard input, and replies to each before it reads the next.
+#![tactic(auto)]
+
 mod disk;
 
 use disk::read_file;

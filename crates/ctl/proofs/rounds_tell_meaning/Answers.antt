@@ -5,4 +5,10 @@ use Rattle.ctl.proofs.Truth.{form_rounds_bounded, DecidesBelow-truth, Dec-Holds}
 
 -- src/lib.rt:13:1
 pub returns : goal.returns
-returns c = (rounds_settle, (rounds_are_monotone, (form_rounds_bounded, (DecidesBelow-truth, Dec-Holds))))
+returns c = record {
+  settle = rounds_settle;
+  monotone = rounds_are_monotone;
+  bounded = form_rounds_bounded;
+  meaning = DecidesBelow-truth;
+  decidable = Dec-Holds;
+}

@@ -9,4 +9,10 @@ use Rattle.tableau.proofs.Grow.{run_grows}
 use Rattle.tableau.proofs.Worked.{set_is_refuted, needs_focus}
 
 pub returns : goal.returns
-returns c = ((set_laws, every_operands_lem), ((outcome_is_exact, refusal_is_exact), ((walk_keeps, closed_walk_refutes, run_grows), ((tree_taken, tree_is_in_bytes, closed_is_tree), (set_is_refuted, needs_focus)))))
+returns c = record {
+  sets = (set_laws, every_operands_lem);
+  exact = (outcome_is_exact, refusal_is_exact);
+  sound = (walk_keeps, closed_walk_refutes, run_grows);
+  complete = (tree_taken, tree_is_in_bytes, closed_is_tree);
+  worked = (set_is_refuted, needs_focus);
+}

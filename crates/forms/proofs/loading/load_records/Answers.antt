@@ -9,7 +9,7 @@ loop-rest-preserved c =
     let rest = c.loop-rest.rest.now in
     let len = c.loop-rest.guard.count.now.len in
     let three : 3 ≤ length rest = (let q = c.in-len3-up in search rules) in
-    let e = c.in-default-append.ensures in
+    let e = c.in_default-append.ensures in
     let left = take_rest rest 3 in (
       refl,
       omega (arith, e.few.0),
@@ -44,7 +44,7 @@ returns c =
     let n = c.args.count.now.len in
     let len = c.loop-rest.guard.count.now.len in
     let few : len ≤ length c.loop-rest.forms = omega arith in
-    let done = no_more (take len c.loop-rest.forms) c.loop-rest.record c.loop-rest.rest.now (let q = c.in-default in search rules) in
+    let done = no_more (take len c.loop-rest.forms) c.loop-rest.record c.loop-rest.rest.now (let q = c.in_default in search rules) in
     let out = forms_after_body_whole (take n forms) c.args.body.now (omega arith) (sym c.loop-rest.invariant.5 ∙ done) in
     record {
       answer = ap Ok (c.commit.ensures.value ∙ sym (length-take-le len c.loop-rest.forms few)) ∙ sym (ap counted_forms out);

@@ -14,14 +14,19 @@ returns-then-marks-n g c =
     ] in
     (cramped, refl, refl {a = c.args.marks.now}, refl {a = c.args.scratch.now})
 
-pub mark-table-requires : goal.mark-table-requires
-mark-table-requires g c = (c.as-slice.ensures.lawful.0, c.as-slice.ensures.lawful.1, omega arith, omega arith)
+pub mark_table-requires : goal.mark_table-requires
+mark_table-requires g c = record {
+  well_formed = c.as_slice.ensures.lawful.0;
+  few_forms = c.as_slice.ensures.lawful.1;
+  marks_hold = omega arith;
+  scratch_holds = omega arith;
+}
 
 pub returns : goal.returns
 returns g c =
     let m = g.M.Machine.model c.args.machine.now in (
       and_from _ _ (le-leb m.count (length c.args.marks.now) (omega arith)) (le-leb m.count (length c.args.scratch.now) (omega arith)),
       subst
-          (λ (T : List Form). IsLabelled T m c.mark-table.result c.args.marks.now c.mark-table.new.marks c.args.scratch.now c.mark-table.new.scratch)
-          c.as-slice.ensures.items c.mark-table.ensures,
+          (λ (T : List Form). IsLabelled T m c.mark_table.result c.args.marks.now c.mark_table.new.marks c.args.scratch.now c.mark_table.new.scratch)
+          c.as_slice.ensures.items c.mark_table.ensures,
     )

@@ -16,7 +16,7 @@ pub returns-in-Every : goal.returns-in-Every
 returns-in-Every g c =
     let m = g.M.Machine.model c.args.machine.now in
     let x = g.X.Collection.members c.args.set.now in
-    let answer = ap not c.some-with-in-Every.ensures in
+    let answer = ap not c.some_with-in-Every.ensures in
     let found = none_out m x c.args.s in
     let asked = ap (λ (q : Quantifier). follow m q x c.args.s) c.in-Every.is in
     cc

@@ -7,24 +7,24 @@ use Rattle.lines.specs.Fields.{Begins}
 use Rattle.lines.proofs.Split.{begins_here, no_digits_here, too_large_here, none_behind}
 use Rattle.lines.proofs.number.first_number.Goals as goal
 
-pub returns-in-err-rest : goal.returns-in-err-rest
-returns-in-err-rest c =
-    let p = err_from_is_err_and c.from-residual.result c.from-residual.ensures.1 in
-    let h = c.in-err-rest.ensures in
+pub returns-in_err-rest : goal.returns-in_err-rest
+returns-in_err-rest c =
+    let p = err_from_is_err_and c.from_residual.result c.from_residual.ensures.1 in
+    let h = c.in_err-rest.ensures in
     rw (p.1, p.2) (h.0, none_behind c.args.text.now h.1)
 
 pub returns-then-end-eq0 : goal.returns-then-end-eq0
 returns-then-end-eq0 c =
-    (refl, no_digits_here c.args.text.now c.in-ok-rest.rest.now c.leading-digits-end.result c.in-ok-rest.ensures c.leading-digits-end.ensures.digits c.leading-digits-end.ensures.stop c.if-end-eq0.true)
+    (refl, no_digits_here c.args.text.now c.in_ok-rest.rest.now c.leading_digits-end.result c.in_ok-rest.ensures c.leading_digits-end.ensures.digits c.leading_digits-end.ensures.stop c.if-end-eq0.true)
 
-pub returns-in-default : goal.returns-in-default
-returns-in-default c =
-    let large : 2 ^ 64 ≤ read_on 0 (take c.leading-digits-end.result c.in-ok-rest.rest.now) = simp sub-zero at c.in-default.ensures in
-    (refl, too_large_here c.args.text.now c.in-ok-rest.rest.now c.leading-digits-end.result c.in-ok-rest.ensures c.leading-digits-end.ensures.digits c.leading-digits-end.ensures.stop large)
+pub returns-in_default : goal.returns-in_default
+returns-in_default c =
+    let large : 2 ^ 64 ≤ read_on 0 (take c.leading_digits-end.result c.in_ok-rest.rest.now) = simp sub-zero at c.in_default.ensures in
+    (refl, too_large_here c.args.text.now c.in_ok-rest.rest.now c.leading_digits-end.result c.in_ok-rest.ensures c.leading_digits-end.ensures.digits c.leading_digits-end.ensures.stop large)
 
 pub returns : goal.returns
 returns c =
-    let value : c.in-Some.n ≡ read_on 0 (take c.leading-digits-end.result c.in-ok-rest.rest.now) = simp sub-zero at c.in-Some.ensures in
-    let whole = between_to_end c.in-ok-rest.rest.now c.leading-digits-end.result (length c.in-ok-rest.rest.now) (omega arith) in
+    let value : c.in-Some.n ≡ read_on 0 (take c.leading_digits-end.result c.in_ok-rest.rest.now) = simp sub-zero at c.in-Some.ensures in
+    let whole = between_to_end c.in_ok-rest.rest.now c.leading_digits-end.result (length c.in_ok-rest.rest.now) (omega arith) in
     subst (Begins c.args.text.now c.in-Some.n) (sym whole)
-    (begins_here c.args.text.now c.in-ok-rest.rest.now c.leading-digits-end.result c.in-ok-rest.ensures c.leading-digits-end.ensures.digits c.leading-digits-end.ensures.stop c.in-Some.n c.leading-digits-end.ensures.within (omega arith) value (search rules))
+    (begins_here c.args.text.now c.in_ok-rest.rest.now c.leading_digits-end.result c.in_ok-rest.ensures c.leading_digits-end.ensures.digits c.leading_digits-end.ensures.stop c.in-Some.n c.leading_digits-end.ensures.within (omega arith) value (search rules))

@@ -1,4 +1,4 @@
-use Rattle.std.proofs.Common.{◌≡◌, ℕ, ◌≤◌, true, length, take, subst, inl, inr, arith, rules}
+use Rattle.std.proofs.Common.{◌≡◌, ℕ, true, length, take, subst, inl, inr, arith}
 use Rattle.lines.specs.Decimals.{all_digits}
 use Rattle.lines.proofs.Digits.{digits_to_next, stops_here, stops_at_end}
 use Rattle.lines.proofs.number.leading_digits.Goals as goal

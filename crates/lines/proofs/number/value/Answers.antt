@@ -1,11 +1,11 @@
-use Rattle.std.proofs.Common.{◌≡◌, ◌+◌, ◌-◌, ◌*◌, ◌<◌, ◌≤◌, get_or, drop, sym, ap, ◌∙◌, arith}
+use Rattle.std.proofs.Common.{◌+◌, ◌-◌, ◌*◌, get_or, drop, sym, ap, ◌∙◌, arith}
 use Rattle.std.proofs.lemmas.List.{at_drop_all}
 use Rattle.lines.specs.Decimals.{read_on}
 use Rattle.lines.proofs.Digits.{digit_here, digits_after, is_digit_bounds, reads_more, read_on_grows}
 use Rattle.lines.proofs.number.value.Goals as goal
 
-pub overflow-sub-b : goal.overflow-sub-b
-overflow-sub-b c = (is_digit_bounds _ (digit_here c.args.digits.now c.loop-b.b-index (omega arith) c.loop-b.invariant.0)).0
+pub overflow_sub-b : goal.overflow_sub-b
+overflow_sub-b c = (is_digit_bounds _ (digit_here c.args.digits.now c.loop-b.b-index (omega arith) c.loop-b.invariant.0)).0
 
 pub returns-then-n-digit : goal.returns-then-n-digit
 returns-then-n-digit c =

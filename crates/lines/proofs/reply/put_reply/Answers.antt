@@ -9,6 +9,6 @@ pub returns : goal.returns
 returns c = record {
   bytes = IfOk-weaker c.write.result _ _ (λ _ p. p ∙ ap (λ (l : List ℕ). l ++ (reply_text c.args.reply ++ codes "\n")) c.clear.ensures.bytes ∙ reply_text-reply_line c.args.reply) c.write.ensures.bytes;
   determined = line_determines_reply;
-  numbers-differ = numbers_differ;
+  numbers_differ = numbers_differ;
   read_back = reads_back;
 }

@@ -6,5 +6,5 @@ use Rattle.machine.proofs.sheet.read_rows.Goals as goal
 pub loop-s-preserved : goal.loop-s-preserved
 loop-s-preserved c =
     let more = map-range_with_len_more (decoded_row c.args.bytes.now) 0 c.loop-s.s c.loop-s.s (omega arith) in
-    let pushed = c.in-ok-push.ensures.items in
+    let pushed = c.in_ok-push.ensures.items in
     cc

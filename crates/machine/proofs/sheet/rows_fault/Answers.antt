@@ -11,5 +11,5 @@ returns-in-Some c =
 
 pub loop-s-preserved : goal.loop-s-preserved
 loop-s-preserved c =
-    let clean = ap (row_fault c.args.n c.loop-s.s) (sym c.read.ensures) ∙ sym c.in-default.ensures in
+    let clean = ap (row_fault c.args.n c.loop-s.s) (sym c.read.ensures) ∙ sym c.in_default.ensures in
     rows_fault_more c.args.bytes.now c.args.n c.loop-s.s c.loop-s.invariant clean

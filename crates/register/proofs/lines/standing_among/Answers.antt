@@ -1,8 +1,6 @@
-use Rattle.std.proofs.Common.{◌≡◌, Bool, cond, eqb, List, get_or, drop, sym, refl, ap, ◌∙◌, arith}
+use Rattle.std.proofs.Common.{List, sym, ap, ◌∙◌, arith}
 use Rattle.std.proofs.lemmas.List.{drop_all}
-use Rattle.std.proofs.lemmas.Bool.{eq-eqb, ne_eqb}
 use Rattle.protocol.specs.declared.line.Line.{Line}
-use Rattle.protocol.specs.declared.line.Standing.TheVariants.{Impossible}
 use Rattle.protocol.specs.State.{standing}
 use Rattle.register.proofs.Kept.{standing_here, standing_on}
 use Rattle.register.proofs.lines.standing_among.Goals as goal

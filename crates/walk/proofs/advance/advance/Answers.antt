@@ -6,4 +6,4 @@ use Rattle.walk.specs.Answers.{answer}
 use Rattle.walk.proofs.advance.advance.Goals as goal
 
 pub returns-in-Some : goal.returns-in-Some
-returns-in-Some c = λ trail. c.advance-by.ensures trail ∙ ap (λ o. answer (outcome (forms_of c.args.table.now) trail c.args.goal (Advance o))) (sym c.in-Some.is)
+returns-in-Some c = λ trail. c.advance_by.ensures trail ∙ ap (λ o. answer (outcome (forms_of c.args.table.now) trail c.args.goal (Advance o))) (sym c.in-Some.is)

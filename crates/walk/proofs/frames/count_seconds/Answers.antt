@@ -5,7 +5,7 @@ use Rattle.walk.proofs.Stack.{seconds_more}
 use Rattle.walk.proofs.frames.count_seconds.Goals as goal
 
 pub loop-frame-preserved : goal.loop-frame-preserved
-loop-frame-preserved c = (omega (arith, c.loop-frame.invariant.0, c.one-if-waiting-count.ensures.value, seconds_more c.args.path.now c.loop-frame.frame-index c.loop-frame-test.true), omega (arith, c.loop-frame.invariant.1, c.one-if-waiting-count.ensures.small))
+loop-frame-preserved c = (omega (arith, c.loop-frame.invariant.0, c.one_if_waiting-count.ensures.value, seconds_more c.args.path.now c.loop-frame.frame-index c.loop-frame-test.true), omega (arith, c.loop-frame.invariant.1, c.one_if_waiting-count.ensures.small))
 
 pub returns : goal.returns
 returns c = record { count = c.loop-frame.invariant.0 ∙ ap (λ p. length (seconds (reverse p))) (take_all c.loop-frame.frame-index c.args.path.now c.loop-frame-test.false); few = omega (arith, c.loop-frame.invariant.1) }

@@ -16,27 +16,27 @@ out c = outcome (forms_of c.args.table.now) (trail_above (vec_items c.args.path.
 
 found : (c : In-Some) → ◌≡◌ {A = Result (Option (Goal × Option Goal)) Refusal} (Ok (Some (c.in-Some.first, c.in-Some.second))) (answer (out c))
 found c =
-    ap Ok (sym c.in-Some.is) ∙ sym c.in-ok-take-step.was ∙ c.take-step.ensures
-    ∙ ap (λ p. answer (outcome (forms_of c.args.table.now) (trail_above p) c.args.present c.args.step)) c.as-slice.ensures.value
+    ap Ok (sym c.in-Some.is) ∙ sym c.in_ok-take_step.was ∙ c.take_step.ensures
+    ∙ ap (λ p. answer (outcome (forms_of c.args.table.now) (trail_above p) c.args.present c.args.step)) c.as_slice.ensures.value
 
 size : (c : In-Some) → length (vec_items c.args.path.now) ≡ vec_len c.args.path.now
-size c = ap length (sym c.as-slice.ensures.value) ∙ c.as-slice.ensures.len
+size c = ap length (sym c.as_slice.ensures.value) ∙ c.as_slice.ensures.len
 
-pub returns-then-len-ge-MOST-ABOVE : goal.returns-then-len-ge-MOST-ABOVE
-returns-then-len-ge-MOST-ABOVE c =
-    let arm : In-Some = (goal.at.returns-then-len-ge-MOST-ABOVE c).In-Some in
+pub returns-then-len-ge-MOST_ABOVE : goal.returns-then-len-ge-MOST_ABOVE
+returns-then-len-ge-MOST_ABOVE c =
+    let arm : In-Some = (goal.at.returns-then-len-ge-MOST_ABOVE c).In-Some in
     record {
       node = too_long c.args.present c.args.step c.in-Some.first c.in-Some.second (out arm) (vec_items c.args.path.now) (found arm) (omega (arith, size arm));
       kept = refl;
       room = (refl, c.requires.0);
     }
 
-pub returns-else-len-ge-MOST-ABOVE : goal.returns-else-len-ge-MOST-ABOVE
-returns-else-len-ge-MOST-ABOVE c =
-    let arm : In-Some = (goal.at.returns-else-len-ge-MOST-ABOVE c).In-Some in
+pub returns-else-len-ge-MOST_ABOVE : goal.returns-else-len-ge-MOST_ABOVE
+returns-else-len-ge-MOST_ABOVE c =
+    let arm : In-Some = (goal.at.returns-else-len-ge-MOST_ABOVE c).In-Some in
     record {
       node = goes_down c.args.present c.args.step c.in-Some.first c.in-Some.second (out arm) (vec_items c.args.path.now) (found arm)
-          (vec_items c.push-reserved.new.self) (omega (arith, size arm)) c.push-reserved.ensures.items;
+          (vec_items c.push_reserved.new.self) (omega (arith, size arm)) c.push_reserved.ensures.items;
       kept = tt;
-      room = (c.push-reserved.ensures.capacity, omega arith);
+      room = (c.push_reserved.ensures.capacity, omega arith);
     }

@@ -4,7 +4,7 @@ use Rattle.forms.proofs.Formed.{formed}
 use Rattle.forms.proofs.Joining.{IsWellFormed_after}
 use Rattle.forms.proofs.table.Table.add.Goals as goal
 
-pub invariant-of-self : goal.invariant-of-self
-invariant-of-self c =
+pub invariant_of-self : goal.invariant_of-self
+invariant_of-self c =
     let T = forms_of c.args.self.now in
-    (c.append.ensures.few.1, (∣ IsWellFormed_after T c.args.kind c.args.a c.args.b {after = take c.append.new.count.len c.append.new.forms} c.append.ensures.after (formed T c.args.self.now.formed) ∣₁, tt))
+    record { few = c.append.ensures.few.1; formed = ∣ IsWellFormed_after T c.args.kind c.args.a c.args.b {after = take c.append.new.count.len c.append.new.forms} c.append.ensures.after (formed T c.args.self.now.formed) ∣₁ }

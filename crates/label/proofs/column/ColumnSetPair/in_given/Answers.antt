@@ -10,5 +10,5 @@ returns-then-f-self c =
     let s = c.args.self.now in
     let w = get_or s.marks.now c.args.i 0 in
     let below = lt-ltb c.args.f s.form c.if-f-self.true in
-    c.has-bit.ensures ∙ member-others w s.form c.args.f (omega arith)
+    c.has_bit.ensures ∙ member-others w s.form c.args.f (omega arith)
     ∙ sym (ap (λ (b : Bool). b && member (others w s.form) c.args.f) below)

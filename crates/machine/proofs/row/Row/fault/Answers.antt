@@ -2,8 +2,8 @@ use Rattle.std.proofs.Common.{sym, arith}
 use Rattle.machine.proofs.RowFaults.{outside, no_fault}
 use Rattle.machine.proofs.row.Row.fault.Goals as goal
 
-pub returns-then-not-stays-inside : goal.returns-then-not-stays-inside
-returns-then-not-stays-inside c =
+pub returns-then-not-stays_inside : goal.returns-then-not-stays_inside
+returns-then-not-stays_inside c =
     sym (outside c.args.n c.args.s c.args.self.now (omega arith) (omega arith) c.loop-k.k (omega arith) (cc))
 
 pub returns : goal.returns

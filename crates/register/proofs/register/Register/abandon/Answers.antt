@@ -7,10 +7,10 @@ use Rattle.register.specs.View.{view}
 use Rattle.register.proofs.Kept.{kept_by, state_of-walk_outcome}
 use Rattle.register.proofs.register.Register.abandon.Goals as goal
 
-pub invariant-of-self : goal.invariant-of-self
-invariant-of-self c =
+pub invariant_of-self : goal.invariant_of-self
+invariant_of-self c =
     let self = c.args.self.now in
     let s = view self in
     let moved = state_of-walk_outcome s (abandon_result s.walk) in
     let later : with_walk s (walk_of c.abandon.new.self) ≡ state_after s abandon = cc in
-    (kept_by s _ abandon tt later self.sound, tt)
+    record { sound = kept_by s _ abandon tt later self.sound }

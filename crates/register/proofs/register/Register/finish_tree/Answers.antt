@@ -1,4 +1,4 @@
-use Rattle.std.proofs.Common.{◌≡◌, ℕ, sym, ap, ◌∙◌}
+use Rattle.std.proofs.Common.{ℕ, sym, ap, ◌∙◌}
 use Rattle.protocol.specs.State.{State, with_walk}
 use Rattle.forms.specs.Bodies.{records}
 use Rattle.protocol.specs.Calls.{declined}
@@ -9,9 +9,9 @@ use Rattle.register.proofs.register.Register.finish_tree.Goals as goal
 pub returns-in-Err : goal.returns-in-Err
 returns-in-Err c =
     let s = view c.args.self.now in
-    let walked = view c.take-steps.new.self in
+    let walked = view c.take_steps.new.self in
     let steps = records c.args.steps.now in
-    let stepped = c.in-ok-at.ensures in
+    let stepped = c.in_ok-at.ensures in
     let why = c.in-Err.refusal in
     let enter = c.in-Err.ensures in
     let same = enter.after ∙ enter_refused walked why enter.answer in (

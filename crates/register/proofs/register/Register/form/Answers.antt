@@ -6,11 +6,11 @@ use Rattle.register.specs.View.{view}
 use Rattle.register.proofs.Kept.{kept_by, state_of-form_outcome}
 use Rattle.register.proofs.register.Register.form.Goals as goal
 
-pub invariant-of-self : goal.invariant-of-self
-invariant-of-self c =
+pub invariant_of-self : goal.invariant_of-self
+invariant_of-self c =
     let self = c.args.self.now in
     let s = view self in
     let result = accepted_form (length s.table) c.args.kind c.args.a c.args.b in
     let moved = state_of-form_outcome s result in
     let later : with_table s (forms_of c.add.new.self) ≡ state_after s (form c.args.kind c.args.a c.args.b) = cc in
-    (kept_by s _ (form c.args.kind c.args.a c.args.b) (search rules, search rules, search rules) later self.sound, tt)
+    record { sound = kept_by s _ (form c.args.kind c.args.a c.args.b) (search rules, search rules, search rules) later self.sound }

@@ -1,4 +1,4 @@
-use Rattle.std.proofs.Common.{◌≡◌, List, sym, ap, ◌∙◌}
+use Rattle.std.proofs.Common.{List, sym, ap, ◌∙◌}
 use Rattle.forms.specs.declared.form.Form.{Form}
 use Rattle.protocol.specs.State.{with_table}
 use Rattle.protocol.specs.Bodies.{forms_body}
@@ -10,13 +10,13 @@ use Rattle.register.proofs.Kept.{kept_by}
 use Rattle.register.proofs.TreeLoad.{AreBytes_all, loaded_answer-answer_from}
 use Rattle.register.proofs.register.Register.load_forms.Goals as goal
 
-pub invariant-of-self : goal.invariant-of-self
-invariant-of-self c =
+pub invariant_of-self : goal.invariant_of-self
+invariant_of-self c =
     let self = c.args.self.now in
     let s = view self in
     let bytes = c.args.bytes.now in
     let after = ap (λ (T : List Form). with_table s T) c.load.ensures.after ∙ sym (state_of-on_load s bytes) in
-    (kept_by s _ (load (forms_body bytes)) (AreBytes_all bytes c.type-inv.bytes) after self.sound, tt)
+    record { sound = kept_by s _ (load (forms_body bytes)) (AreBytes_all bytes c.type_inv.bytes) after self.sound }
 
 pub returns : goal.returns
 returns c =

@@ -13,47 +13,47 @@ pub returns-in-Err : goal.returns-in-Err
 returns-in-Err c =
     let s = view c.args.self.now in
     let bytes = c.args.body.now in
-    let whole : is_tree_length bytes ≡ true = sym c.is-tree-length.ensures.value ∙ c.if-not-is-tree-length.false in
+    let whole : is_tree_length bytes ≡ true = sym c.is_tree_length.ensures.value ∙ c.if-not-is_tree_length.false in
     let start = c.in-Err.ensures in
     let why = c.in-Err.refusal in
-    let outcome = tree_unopened s bytes whole c.tree-set.result c.tree-set.ensures why start.answer in
+    let outcome = tree_unopened s bytes whole c.tree_set.result c.tree_set.ensures why start.answer in
     record {
       answer = ap answer_of (sym outcome);
-      after = start.after ∙ refused_stays s (on_open s c.tree-set.result) why 0 start.answer ∙ ap (state_of s) (sym outcome);
+      after = start.after ∙ refused_stays s (on_open s c.tree_set.result) why 0 start.answer ∙ ap (state_of s) (sym outcome);
     }
 
 pub returns-in-Ok : goal.returns-in-Ok
 returns-in-Ok c =
     let s = view c.args.self.now in
     let bytes = c.args.body.now in
-    let whole : is_tree_length bytes ≡ true = sym c.is-tree-length.ensures.value ∙ c.if-not-is-tree-length.false in
-    let start = c.in-default.ensures in
+    let whole : is_tree_length bytes ≡ true = sym c.is_tree_length.ensures.value ∙ c.if-not-is_tree_length.false in
+    let start = c.in_default.ensures in
     let outcome =
-    tree_opened s bytes whole c.tree-set.result c.tree-set.ensures _ start.answer
+    tree_opened s bytes whole c.tree_set.result c.tree_set.ensures _ start.answer
     ∙ ap (λ (t : State). finish_outcome t (steps_of bytes)) (sym start.after)
     ∙ ap (λ (l : List ℕ). finish_outcome (view c.open.new.self) (records l)) (sym (take_rest bytes 8))
     ∙ c.in-Ok.ensures in
     record { answer = ap answer_of (sym outcome); after = ap (state_of s) (sym outcome) }
 
-pub returns-in-Err-finish-tree : goal.returns-in-Err-finish-tree
-returns-in-Err-finish-tree c =
+pub returns-in-Err-finish_tree : goal.returns-in-Err-finish_tree
+returns-in-Err-finish_tree c =
     let s = view c.args.self.now in
     let bytes = c.args.body.now in
-    let whole : is_tree_length bytes ≡ true = sym c.is-tree-length.ensures.value ∙ c.if-not-is-tree-length.false in
-    let start = c.in-default.ensures in
-    let finish = c.in-Err-finish-tree.ensures in
+    let whole : is_tree_length bytes ≡ true = sym c.is_tree_length.ensures.value ∙ c.if-not-is_tree_length.false in
+    let start = c.in_default.ensures in
+    let finish = c.in-Err-finish_tree.ensures in
     let outcome =
-    tree_opened s bytes whole c.tree-set.result c.tree-set.ensures _ start.answer
+    tree_opened s bytes whole c.tree_set.result c.tree_set.ensures _ start.answer
     ∙ ap (λ (t : State). finish_outcome t (steps_of bytes)) (sym start.after)
     ∙ ap (λ (l : List ℕ). finish_outcome (view c.open.new.self) (records l)) (sym (take_rest bytes 8))
     ∙ finish.0 in
-    let opened = open_walk_alone s c.tree-set.result _ start.answer in
+    let opened = open_walk_alone s c.tree_set.result _ start.answer in
     let at_open : view c.open.new.self ≡ with_walk s (view c.open.new.self).walk =
     start.after ∙ opened.1 ∙ ap (λ (t : State). with_walk s t.walk) (sym start.after) in
     record {
       answer = ap answer_of (sym outcome);
       after =
-          put_back s (view c.open.new.self) (view c.finish-tree.new.self) _ opened.0 at_open finish.1
-          (let gone = abandon_walk_alone (view c.finish-tree.new.self) in cc)
+          put_back s (view c.open.new.self) (view c.finish_tree.new.self) _ opened.0 at_open finish.1
+          (let gone = abandon_walk_alone (view c.finish_tree.new.self) in cc)
           ∙ ap (state_of s) (sym outcome);
     }

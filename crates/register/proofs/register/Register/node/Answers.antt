@@ -7,13 +7,13 @@ use Rattle.register.specs.View.{view}
 use Rattle.register.proofs.Kept.{kept_by, state_of-walk_outcome, answer_of-walk_outcome}
 use Rattle.register.proofs.register.Register.node.Goals as goal
 
-pub invariant-of-self : goal.invariant-of-self
-invariant-of-self c =
+pub invariant_of-self : goal.invariant_of-self
+invariant_of-self c =
     let self = c.args.self.now in
     let s = view self in
     let moved = state_of-walk_outcome s (step_result s.table s.walk c.args.number c.args.a c.args.b) in
     let later : with_walk s (walk_of c.node.new.self) ≡ state_after s (node c.args.number c.args.a c.args.b) = cc in
-    (kept_by s _ (node c.args.number c.args.a c.args.b) (search rules, search rules, search rules) later self.sound, tt)
+    record { sound = kept_by s _ (node c.args.number c.args.a c.args.b) (search rules, search rules, search rules) later self.sound }
 
 pub returns : goal.returns
 returns c =

@@ -8,8 +8,8 @@ use Rattle.register.specs.View.{view}
 use Rattle.register.proofs.Kept.{kept_by, state_of-walk_outcome}
 use Rattle.register.proofs.register.Register.open.Goals as goal
 
-pub invariant-of-self : goal.invariant-of-self
-invariant-of-self c =
+pub invariant_of-self : goal.invariant_of-self
+invariant_of-self c =
     let self = c.args.self.now in
     let s = view self in
     let set = c.args.set in
@@ -17,4 +17,4 @@ invariant-of-self c =
     let after =
     ap (λ (p : Progress). with_walk s p) c.open.ensures.after ∙ state_of-walk_outcome s (open_result s.walk set)
     ∙ ap (λ (b : Bool). state_of s (outcome_given b SetBeyondTable (walk_outcome s (open_result s.walk set)))) (sym inside) in
-    (kept_by s _ (open_at set) (search rules) after self.sound, tt)
+    record { sound = kept_by s _ (open_at set) (search rules) after self.sound }

@@ -1,10 +1,10 @@
-use Rattle.std.proofs.Common.{◌≡◌, ℕ, ◌<◌, List, [], ◌∷◌, length, get_or, Err, Result, sym, refl, ap, ◌∙◌, subst, arith, rules}
+use Rattle.std.proofs.Common.{◌≡◌, ◌<◌, List, [], ◌∷◌, length, get_or, Err, Result, sym, refl, ap, ◌∙◌, subst, arith, rules}
 use lib.Bits.{bit_and}
 use Rattle.std.proofs.lemmas.Result.{err_from_is_err_and}
 use Rattle.forms.specs.declared.refusal.Refusal.{Refusal}
 use Rattle.protocol.specs.declared.line.Line.{Line}
-use Rattle.protocol.specs.State.{State, with_book}
-use Rattle.protocol.specs.Calls.{Outcome, ok, show, held_part, state_shown, on_show, state_after, answer_of, state_of}
+use Rattle.protocol.specs.State.{with_book}
+use Rattle.protocol.specs.Calls.{ok, show, held_part, state_shown, state_after, answer_of, state_of}
 use Rattle.protocol.proofs.Marks.{held_tells}
 use Rattle.register.specs.Books.{lines_of, noted_lines}
 use Rattle.register.specs.View.{view}
@@ -15,16 +15,16 @@ use Rattle.register.proofs.ShowOutcome.{show_refused, show_taken, state_below, h
 use Rattle.register.proofs.register.Register.show.Goals as goal
 use Rattle.register.proofs.register.Register.show.Goals.{After-note}
 
-pub returns-in-err-showable : goal.returns-in-err-showable
-returns-in-err-showable g c =
+pub returns-in_err-showable : goal.returns-in_err-showable
+returns-in_err-showable g c =
     let s = view c.args.self.now in
     let m = g.M.Machine.model c.args.machine.now in
     let marks = c.args.marks.now in
     let scratch = c.args.scratch.now in
-    let p = err_from_is_err_and c.from-residual.result c.from-residual.ensures.1 in
-    let why = c.in-err-showable.field-0.0 in
-    let outcome = show_refused s c.args.set c.args.state m (length marks) (length scratch) c.count.result c.count.ensures why c.in-err-showable.ensures in
-    let is : c.from-residual.result ≡ Err why = p.1 ∙ ap Err p.2 in
+    let p = err_from_is_err_and c.from_residual.result c.from_residual.ensures.1 in
+    let why = c.in_err-showable.field-0.0 in
+    let outcome = show_refused s c.args.set c.args.state m (length marks) (length scratch) c.count.result c.count.ensures why c.in_err-showable.ensures in
+    let is : c.from_residual.result ≡ Err why = p.1 ∙ ap Err p.2 in
     record {
       answer = ap shown_answer is ∙ ap answer_of outcome;
       after = ap (state_of s) outcome;
@@ -40,8 +40,8 @@ part_held g c =
     let s = view c.args.self.now in
     let m = g.M.Machine.model c.args.machine.now in
     let below : c.args.state < m.count =
-    omega (arith, state_below s c.args.set c.args.state c.count.result (length c.args.marks.now) (length c.args.scratch.now) c.in-ok-showable.field-0 c.in-ok-showable.ensures, c.count.ensures) in
-    ap (bit_and c.args.set) (c.in-ok-rounds.ensures.1.each c.args.state below)
+    omega (arith, state_below s c.args.set c.args.state c.count.result (length c.args.marks.now) (length c.args.scratch.now) c.in_ok-showable.field-0 c.in_ok-showable.ensures, c.count.ensures) in
+    ap (bit_and c.args.set) (c.in_ok-rounds.ensures.1.each c.args.state below)
 
 -- the register after the show
 note_state_after : (g : _) (c : goal.After-note g)
@@ -54,33 +54,33 @@ note_state_after g c =
     let m = g.M.Machine.model c.args.machine.now in
     let marks = length c.args.marks.now in
     let scratch = length c.args.scratch.now in
-    let x = c.in-ok-showable.field-0 in
-    let is = c.in-ok-showable.ensures in
+    let x = c.in_ok-showable.field-0 in
+    let is = c.in_ok-showable.ensures in
     let joins : lines_of c.note.new.self ≡ noted_lines s.book set (bit_and set (get_or c.label.new.marks state 0)) = cc in
     ap (λ (lines : List Line). with_book s lines) joins
     ∙ with_book-noted_lines s set (bit_and set (get_or c.label.new.marks state 0)) (has_room_for s set state c.count.result marks scratch x is)
     ∙ ap (state_shown s set) (part_held g c)
     ∙ ap (state_of s) (show_taken s set state m marks scratch c.count.result c.count.ensures x is)
 
-pub invariant-of-self : goal.invariant-of-self
-invariant-of-self g c =
+pub invariant_of-self : goal.invariant_of-self
+invariant_of-self g c =
     let self = c.args.self.now in
     let s = view self in
-    let m = g.M.Machine.model c.args.machine.now in (
-      kept_by s _ (show c.args.set c.args.state m (length c.args.marks.now) (length c.args.scratch.now))
-          (search rules, g.met.M.Machine.sound c.args.machine.now) (note_state_after g c) self.sound,
-      tt,
-    )
+    let m = g.M.Machine.model c.args.machine.now in
+    record {
+      sound = kept_by s _ (show c.args.set c.args.state m (length c.args.marks.now) (length c.args.scratch.now))
+          (search rules, g.met.M.Machine.sound c.args.machine.now) (note_state_after g c) self.sound;
+    }
 
 pub returns : goal.returns
 returns g c =
     let s = view c.args.self.now in
     let m = g.M.Machine.model c.args.machine.now in
     let done = (goal.at.returns g c).After-note in
-    let labelled = c.in-ok-rounds.ensures.1 in
+    let labelled = c.in_ok-rounds.ensures.1 in
     let outcome =
-    show_taken s c.args.set c.args.state m (length c.args.marks.now) (length c.args.scratch.now) c.count.result c.count.ensures c.in-ok-showable.field-0
-    c.in-ok-showable.ensures in
+    show_taken s c.args.set c.args.state m (length c.args.marks.now) (length c.args.scratch.now) c.count.result c.count.ensures c.in_ok-showable.field-0
+    c.in_ok-showable.ensures in
     record {
       answer = (λ i. ok (part_held g done i ∷ labelled.counted i ∷ [])) ∙ ap answer_of outcome;
       after = note_state_after g done;

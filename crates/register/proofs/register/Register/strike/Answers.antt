@@ -6,10 +6,10 @@ use Rattle.register.specs.View.{view}
 use Rattle.register.proofs.Kept.{kept_by, state_of-on_strike}
 use Rattle.register.proofs.register.Register.strike.Goals as goal
 
-pub invariant-of-self : goal.invariant-of-self
-invariant-of-self c =
+pub invariant_of-self : goal.invariant_of-self
+invariant_of-self c =
     let self = c.args.self.now in
     let s = view self in
     let moved = state_of-on_strike s c.args.line in
     let later : with_book s (lines_of c.strike.new.self) ≡ state_after s (strike c.args.line) = cc in
-    (kept_by s _ (strike c.args.line) tt later self.sound, tt)
+    record { sound = kept_by s _ (strike c.args.line) tt later self.sound }

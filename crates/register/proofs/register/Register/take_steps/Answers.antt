@@ -1,4 +1,4 @@
-use Rattle.std.proofs.Common.{◌≡◌, ℕ, suc, ◌+◌, ◌^◌, ◌<◌, ◌≤◌, List, length, drop, sym, ap, ◌∙◌, add-one, arith, rules}
+use Rattle.std.proofs.Common.{ℕ, suc, ◌+◌, ◌^◌, ◌<◌, ◌≤◌, List, length, drop, sym, ap, ◌∙◌, add-one, arith, rules}
 use Rattle.std.proofs.lemmas.List.{take_rest}
 use Rattle.protocol.specs.State.{State}
 use Rattle.forms.specs.Bodies.{records}
@@ -19,8 +19,8 @@ returns-in-Err c =
       walk_alone_on s mid _ c.loop-rest.invariant.2 (step_walk_alone mid _ (first rest) node.after),
     )
 
-pub overflow-add-at : goal.overflow-add-at
-overflow-add-at c =
+pub overflow_add-at : goal.overflow_add-at
+overflow_add-at c =
     let rest = c.loop-rest.rest.now in
     let three : 3 ≤ length rest = (let q = c.in-len3-up in search rules) in
     let few = records_few c.args.steps.now in
@@ -33,7 +33,7 @@ loop-rest-preserved c =
     let mid = view c.loop-rest.self in
     let rest = c.loop-rest.rest.now in
     let three : 3 ≤ length rest = (let q = c.in-len3-up in search rules) in
-    let node = c.in-default-node.ensures in
+    let node = c.in_default-node.ensures in
     let left = take_rest rest 3 in
     let at = c.loop-rest.at in
     let more = records_more rest three in (
@@ -49,7 +49,7 @@ loop-rest-preserved c =
 pub returns : goal.returns
 returns c =
     let rest = c.loop-rest.rest.now in
-    let done = records_none rest (let q = c.in-default in search rules) in (
+    let done = records_none rest (let q = c.in_default in search rules) in (
       c.loop-rest.invariant.0 ∙ ap (in_turn node_on (view c.loop-rest.self) c.loop-rest.at) done ∙ none_in_turn (view c.loop-rest.self) c.loop-rest.at,
       omega (arith, c.loop-rest.invariant.1, ap length done),
       c.loop-rest.invariant.2,

@@ -1,4 +1,4 @@
-use Rattle.std.proofs.Common.{ℕ, List, sym, ap, ◌∙◌}
+use Rattle.std.proofs.Common.{sym, ap, ◌∙◌}
 use Rattle.lines.specs.declared.command.Command.{Command}
 use Rattle.protocol.specs.State.{State}
 use Rattle.service.specs.Kept.{with_register}
