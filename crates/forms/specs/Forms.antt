@@ -1,5 +1,5 @@
 -- Forms: CTL formulas in negation normal form, whose operands are numbers of earlier forms, kept in a table.
-use Rattle.std.specs.Prelude.{ℕ, ◌<◌, ◌≤◌, Bool, true, ◌&&◌, List, [], ◌∷◌, length, get_or, Some, None, Option, nat_le, nat_lt, slice_index_or}
+use Rattle.std.specs.Prelude.{ℕ, ◌<◌, ◌≤◌, Bool, true, ◌&&◌, List, [], ◌∷◌, length, Some, None, Option, nat_le, nat_lt, slice_index_or}
 use Rattle.forms.specs.declared.form.Quantifier.TheVariants.{Exists, Every}
 use Rattle.forms.specs.declared.form.Form.{Form}
 use Rattle.forms.specs.declared.form.Form.TheVariants.{Truth, Falsity, Atom, Absent, And, Or, Next, Until, Release}
@@ -7,7 +7,7 @@ use Rattle.forms.specs.declared.form.Form.TheVariants.{Truth, Falsity, Atom, Abs
 -- the form of a kind, by the kind's number; operands that the kind does not use are ignored
 abbrev pub form_of : (kind a b : ℕ) → Option Form
 form_of kind a b =
-    get_or
+    slice_index_or
     (Some Truth
     ∷ Some Falsity
     ∷ Some (Atom a)

@@ -1,5 +1,5 @@
 -- The rows of a sheet, decoded once from the bytes of a modes body.
-use Rattle.std.specs.Prelude.{◌≡◌, ℕ, ◌^◌, ◌<◌, Bool, List, [], map, length, get_or, ℤ, pos, ◌+ℤ◌, slice_index_or}
+use Rattle.std.specs.Prelude.{◌≡◌, ℕ, ◌^◌, ◌<◌, Bool, List, [], map, length, ℤ, pos, ◌+ℤ◌, slice_index_or}
 use Rattle.std.specs.List.{range_with_len}
 use Rattle.ctl.specs.Model.{Model}
 use Rattle.ctl.specs.Search.{some}
@@ -30,13 +30,13 @@ row_leads row s t = some row.degree (λ k. is_row t (target row s k))
 abbrev pub rows_model : List Row → Model
 rows_model rows = record {
   count = length rows;
-  atoms = λ s. (get_or rows s no_row).atoms;
+  atoms = λ s. (slice_index_or rows s no_row).atoms;
   leads = λ s t. row_leads (slice_index_or rows s no_row) s t;
 }
 
 -- no row has an atom above 31
 abbrev pub IsNarrow : List Row → Type 0
-IsNarrow rows = (s : ℕ) → (get_or rows s no_row).atoms < 2 ^ 32
+IsNarrow rows = (s : ℕ) → (slice_index_or rows s no_row).atoms < 2 ^ 32
 
 -- the rows are those of a body, and mean the machine in it
 pub record Decodes (bytes : List ℕ) (rows : List Row) : Type 0 where

@@ -1,5 +1,5 @@
 -- Rows with which nothing is wrong are a machine.
-use Rattle.std.specs.Prelude.{◌≡◌, ℕ, ◌<◌, ◌≤◌, Bool, true, false, cond, ◌&&◌, List, length, get_or, ℤ, pos, negsuc, is_some, Some, Option, nat_le, slice_index_or, refl}
+use Rattle.std.specs.Prelude.{◌≡◌, ℕ, ◌<◌, ◌≤◌, Bool, true, false, cond, ◌&&◌, List, length, ℤ, pos, negsuc, is_some, Some, Option, nat_le, slice_index_or, refl}
 use Rattle.std.proofs.Common.{ap, sym, ⊎_elim, arith}
 use Rattle.std.proofs.lemmas.List.{get_or_past}
 use Rattle.std.proofs.lemmas.Bool.{and_parts, ltb-true, leb-true, eqb-true, eq-eqb, cases_lt, cases_Bool, both_ways}
@@ -44,7 +44,7 @@ is_row_inside n t (pos u) e p = omega (arith, ltb-true u n e, eqb-true u t p)
 is_row_inside n t (negsuc u) e p = absurd (both_ways true (sym e) refl)
 
 -- past the rows nothing holds and nothing follows
-pub past_atoms : (rows : List Row) (s : ℕ) → length rows ≤ s → (get_or rows s no_row).atoms ≡ 0
+pub past_atoms : (rows : List Row) (s : ℕ) → length rows ≤ s → (slice_index_or rows s no_row).atoms ≡ 0
 past_atoms rows s h = ap (λ (row : Row). row.atoms) (get_or_past rows s no_row h)
 
 pub past_leads : (rows : List Row) (s t : ℕ) → length rows ≤ s → row_leads (slice_index_or rows s no_row) s t ≡ false
@@ -54,7 +54,7 @@ past_leads rows s t h = ap (λ (row : Row). row_leads row s t) (get_or_past rows
 module _ (rows : List Row) (clean : IsFaultless rows) where
   leads_within : (s t : ℕ) → (rows_model rows).leads s t ≡ true → (s < length rows) × (t < length rows)
   leads_within s t e =
-      let row = get_or rows s no_row in
+      let row = slice_index_or rows s no_row in
       let h = ⊎_elim (λ below. below) (λ past. absurd (both_ways _ (past_leads rows s t past) e)) (cases_lt s (length rows)) in
       let f = some_found row.degree (λ k. is_row t (target row s k)) e in
       (h, is_row_inside (length rows) t (target row s f.0) ((IsClean_row (length rows) s row (clean s h)).lands f.0 f.1.0) f.1.1)
@@ -68,7 +68,7 @@ module _ (rows : List Row) (clean : IsFaultless rows) where
   IsSerial-rows_model inhabited = record {
     inhabited = inhabited;
     successor = λ s h.
-        let row = get_or rows s no_row in
+        let row = slice_index_or rows s no_row in
         let c = IsClean_row (length rows) s row (clean s h) in
         let at = lands_at (length rows) (target row s 0) (c.lands 0 c.low) in
         (at.0, (at.1.0, some_from row.degree (λ k. is_row at.0 (target row s k)) 0 c.low at.1.1));

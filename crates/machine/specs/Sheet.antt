@@ -2,8 +2,7 @@
 -- A body is a two-byte row count n, then n rows of 21 bytes: atoms in four bytes, a count d, and eight signed two-byte offsets, of which
 -- the first d are read. Numbers are low byte first. The successors of row s are s plus each of its offsets.
 use Rattle.std.specs.Prelude.{◌≡◌, ℕ, ◌+◌, ◌*◌, ◌<◌, Bool, false, cond, ◌&&◌, List, ℤ, pos, negsuc, ◌+ℤ◌, Decides, ◌==◌, nat_lt, slice_index}
-use Rattle.std.specs.Int.{w16}
-use Rattle.std.proofs.Common.{to_z}
+use Rattle.std.specs.Int.{w16, cast_signed}
 use Rattle.ctl.specs.Model.{Model}
 use Rattle.ctl.specs.Search.{some}
 
@@ -33,7 +32,7 @@ degree bytes s = slice_index bytes (row_start s + 4)
 
 -- offset k of row s, a 16-bit number in two's complement
 abbrev pub offset : List ℕ → ℕ → ℕ → ℤ
-offset bytes s k = to_z w16 (two_bytes bytes (row_start s + 5 + 2 * k))
+offset bytes s k = cast_signed w16 (two_bytes bytes (row_start s + 5 + 2 * k))
 
 -- z is the number t
 abbrev pub is_row : ℕ → ℤ → Bool

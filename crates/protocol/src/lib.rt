@@ -9,5 +9,6 @@ pub use line::{Line, Standing};
 
 // What the register promises of every run of its calls, and what the held part of a show tells. It does nothing.
 pub fn promises_kept()
-    ensures { (Promises) × (HeldTells) }
+    ensures promises { Promises }
+    ensures held { HeldTells }
 {}

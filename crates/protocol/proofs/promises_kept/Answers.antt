@@ -3,4 +3,7 @@ use Rattle.protocol.proofs.Marks.{held_tells}
 use Rattle.protocol.proofs.promises_kept.Goals as goal
 
 pub returns : goal.returns
-returns c = (promises, held_tells)
+returns c = record {
+  promises = promises;
+  held = held_tells;
+}
