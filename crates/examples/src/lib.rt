@@ -1,6 +1,6 @@
+// The rules by example: tests of the crates below, in a crate of their own so that those are not proved twice.
 #![tactic(auto)]
 
-// The rules by example: tests of the crates below, in a crate of their own so that those are not proved twice.
 #[cfg(test)]
 mod files;
 #[cfg(test)]
