@@ -1,2 +1,4 @@
+pub mod Differences
 pub mod Overlays
 pub mod Settles
+pub mod Writing

@@ -1,6 +1,7 @@
-// The smallest or the largest set that a monotone round leaves unchanged, wherever sets are kept and whatever their indices stand for.
+// The least or the greatest fixed point of a monotone round, wherever sets are kept and whatever indices stand for.
 #![tactic(auto)]
 
-pub mod pairs;
+pub mod fixed_point;
+pub mod index_set;
 pub mod round;
 pub mod search;

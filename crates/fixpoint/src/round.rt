@@ -2,23 +2,28 @@
 ghost use Rattle.std.specs.Prelude.{◌≡◌, ℕ, ◌<◌, ◌≤◌};
 ghost use Rattle.ctl.specs.Rounds.{Subset, IsMonotone};
 
-use crate::pairs::SetPair;
+use crate::index_set::IndexSet;
 
-// A round takes a set of the indices below `size` to another, in the light of the sets given.
-pub trait Round {
+/// A monotone round: it takes a set of the indices below `size` to another.
+/// What else it needs it may read where the current set is kept, from what stays while the set changes.
+pub trait Round<C: IndexSet> {
     ghost size: { Self → ℕ };
 
-    ghost step: { Self → (ℕ → Subset) → Subset → Subset };
+    ghost step: { Self → C → Subset → Subset };
 
-    // a larger set never gives a smaller round
-    ghost monotone: { (r : Self) (given : ℕ → Subset) → IsMonotone (size r) (step r given) };
-
+    /// How many indices there are; they are the numbers below it.
     fn count(&self) -> usize
         ensures { result ≡ size self.now };
 
-    // Whether i is in the round of the current set.
-    fn holds<S: SetPair>(&self, i: usize, sets: &S) -> bool
-        requires in_round { i < size self.now }
-        requires roomy { size self.now ≤ S.SetPair.room sets.now }
-        ensures { result ≡ step self.now (S.SetPair.given (S.SetPair.rest sets.now)) (S.SetPair.current sets.now) i };
+    /// Whether index i is in the round of the current set, for which the memory has room.
+    fn holds(&self, i: usize, current: &C) -> bool
+        requires in_range { i < size self.now }
+        requires room { size self.now ≤ C.room (C.rest current.now) }
+        ensures { result ≡ step self.now current.now (C.members current.now) i };
+
+    // Law: a larger set never gives a smaller round.
+    ghost monotone: { (r : Self) (c : C) → IsMonotone (size r) (step r c) };
+
+    // Law: the set kept there can change, and the round stays the same.
+    ghost steady: { (r : Self) (c c' : C) → C.rest c ≡ C.rest c' → step r c ≡ step r c' };
 }

@@ -1,4 +1,5 @@
 pub mod Accepting
+pub mod Chunks
 pub mod Formed
 mod Joining
 pub mod Numbering

@@ -13,5 +13,5 @@ records (x ∷ y ∷ []) = []
 records (x ∷ y ∷ z ∷ rest) = (x, y, z) ∷ records rest
 
 -- whether a forms body can have its length
-abbrev pub is_forms_length : List ℕ → Bool
-is_forms_length bytes = length bytes % 3 == 0
+abbrev pub has_forms_length : List ℕ → Bool
+has_forms_length bytes = length bytes % 3 == 0

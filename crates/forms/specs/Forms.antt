@@ -1,5 +1,5 @@
 -- Forms: CTL formulas in negation normal form, whose operands are numbers of earlier forms, kept in a table.
-use Rattle.std.specs.Prelude.{ℕ, ◌<◌, ◌≤◌, Bool, true, ◌&&◌, List, [], ◌∷◌, length, Some, None, Option, nat_le, nat_lt, slice_index_or}
+use Rattle.std.specs.Prelude.{ℕ, ◌<◌, ◌≤◌, Bool, true, ◌&&◌, List, [], ◌∷◌, length, Some, None, Option, nat_le, nat_lt, slice_index_or, ⊤}
 use Rattle.forms.specs.declared.form.Quantifier.TheVariants.{Exists, Every}
 use Rattle.forms.specs.declared.form.Form.{Form}
 use Rattle.forms.specs.declared.form.Form.TheVariants.{Truth, Falsity, Atom, Absent, And, Or, Next, Until, Release}
@@ -35,53 +35,34 @@ form T f = slice_index_or T f Truth
 abbrev pub atom_fits : Form → Bool
 atom_fits (Atom p) = nat_le p 31
 atom_fits (Absent p) = nat_le p 31
-atom_fits Truth = true
-atom_fits Falsity = true
-atom_fits (And i j) = true
-atom_fits (Or i j) = true
-atom_fits (Next q i) = true
-atom_fits (Until q i j) = true
-atom_fits (Release q i j) = true
+atom_fits _ = true
 
 -- the operands of a form are numbers below n
 abbrev pub operands_below : ℕ → Form → Bool
-operands_below n Truth = true
-operands_below n Falsity = true
-operands_below n (Atom p) = true
-operands_below n (Absent p) = true
 operands_below n (And i j) = nat_lt i n && nat_lt j n
 operands_below n (Or i j) = nat_lt i n && nat_lt j n
 operands_below n (Next q i) = nat_lt i n
 operands_below n (Until q i j) = nat_lt i n && nat_lt j n
 operands_below n (Release q i j) = nat_lt i n && nat_lt j n
+operands_below n _ = true
 
 -- the same as a statement: the operands of the form numbered f are numbers of earlier forms
 abbrev pub Earlier : ℕ → Form → Type 0
-Earlier f Truth = Unit {0}
-Earlier f Falsity = Unit {0}
-Earlier f (Atom p) = Unit {0}
-Earlier f (Absent p) = Unit {0}
 Earlier f (And i j) = (i < f) × (j < f)
 Earlier f (Or i j) = (i < f) × (j < f)
 Earlier f (Next q i) = i < f
 Earlier f (Until q i j) = (i < f) × (j < f)
 Earlier f (Release q i j) = (i < f) × (j < f)
+Earlier f _ = ⊤
 
 abbrev pub IsWellFormed : Table → Type 0
 IsWellFormed T = (f : ℕ) → Earlier f (form T f)
 
 -- a table of the register: well-formed, of at most 64 forms
-abbrev pub IsLawful : Table → Type 0
-IsLawful T = IsWellFormed T × (length T ≤ 64)
+abbrev pub IsLawfulTable : Table → Type 0
+IsLawfulTable T = IsWellFormed T × (length T ≤ 64)
 
 -- a form other than `Truth`, which is what a place past the table reads as
-abbrev pub IsSolid : Form → Type 0
-IsSolid Truth = ⊥
-IsSolid Falsity = Unit {0}
-IsSolid (Atom p) = Unit {0}
-IsSolid (Absent p) = Unit {0}
-IsSolid (And i j) = Unit {0}
-IsSolid (Or i j) = Unit {0}
-IsSolid (Next q i) = Unit {0}
-IsSolid (Until q i j) = Unit {0}
-IsSolid (Release q i j) = Unit {0}
+abbrev pub IsNotTruth : Form → Type 0
+IsNotTruth Truth = ⊥
+IsNotTruth _ = ⊤

@@ -15,8 +15,8 @@ unfoldable pub set_remove : ℕ → ℕ → ℕ
 set_remove s f = bit_xor s (bit_and s (2 ^ f))
 
 -- whether each form of r is in s
-unfoldable pub contained : ℕ → ℕ → Bool
-contained r s = bit_and r s == r
+unfoldable pub is_subset : ℕ → ℕ → Bool
+is_subset r s = bit_and r s == r
 
 -- whether each form of the set is in the table
 abbrev pub is_within : List Form → ℕ → Bool

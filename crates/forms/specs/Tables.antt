@@ -1,14 +1,9 @@
--- The forms that a table keeps, and what joins them.
-use Rattle.std.specs.Prelude.{ℕ, Bool, true, false, List, [], ◌∷◌, ◌++◌, length, take, Some, None, Ok, Err, Option, Result, nat_lt}
+-- What joins the forms of a table.
+use Rattle.std.specs.Prelude.{ℕ, Bool, true, false, List, [], ◌∷◌, ◌++◌, length, Some, None, Ok, Err, Option, Result, nat_lt}
 use Rattle.forms.specs.declared.form.Form.{Form}
 use Rattle.forms.specs.declared.refusal.Refusal.{Refusal}
 use Rattle.forms.specs.declared.refusal.Refusal.TheVariants.{KindAbove11, AtomAbove31, OperandNotEarlier, TableFull}
-use Rattle.forms.specs.declared.table.Table.{Table}
 use Rattle.forms.specs.Forms.{form_of, atom_fits, operands_below}
-
--- the forms of a table, in the order in which they came
-abbrev pub forms_of : Table → List Form
-forms_of table = take table.count.len table.forms
 
 abbrev pub most_forms : ℕ
 most_forms = 64
@@ -40,8 +35,8 @@ joined_forms T (Ok form) = T ++ form ∷ []
 joined_forms T (Err why) = T
 
 -- what is answered where the form of a kind is brought to a table, and the table then
-abbrev pub number_given : List Form → (kind a b : ℕ) → Result ℕ Refusal
-number_given T kind a b = form_number T (accepted_form (length T) kind a b)
+abbrev pub add_answer : List Form → (kind a b : ℕ) → Result ℕ Refusal
+add_answer T kind a b = form_number T (accepted_form (length T) kind a b)
 
-abbrev pub table_after : List Form → (kind a b : ℕ) → List Form
-table_after T kind a b = joined_forms T (accepted_form (length T) kind a b)
+abbrev pub forms_after_add : List Form → (kind a b : ℕ) → List Form
+forms_after_add T kind a b = joined_forms T (accepted_form (length T) kind a b)

@@ -2,15 +2,18 @@
 ghost use Rattle.std.specs.Prelude.{◌≡◌, true};
 ghost use Rattle.forms.specs.Forms.{form_of, atom_fits, operands_below, Earlier};
 
-// On some path or successor, or on all of them.
-#[derive(Clone, Copy)]
+/// On some path or successor (E), or on all of them (A).
+#[derive(Clone, Copy, PartialEq, Eq, Debug)]
 pub enum Quantifier {
     Exists,
     Every,
 }
 
-// `Truth` stands first: it is what a read past a table's end gives.
-#[derive(Clone, Copy)]
+/// A CTL formula in negation normal form; an atom is named by its number, an operand by that of an earlier form.
+/// `Next(Exists, a)` is EX a, `Until(Every, a, b)` is A(a U b), `Release(Exists, a, b)` is E(a R b).
+/// A form by itself may have any numbers; a table takes only atoms 0 to 31 and earlier operands.
+/// `Truth` is also what a read past a table's end gives.
+#[derive(Clone, Copy, PartialEq, Eq, Debug)]
 pub enum Form {
     Truth,
     Falsity,
@@ -24,7 +27,9 @@ pub enum Form {
 }
 
 impl Form {
-    // The form of a kind, by the kind's number; operands that the kind does not use are ignored.
+    // No `TryFrom`: the operands come with the kind, and a triple of bytes would say no more.
+    /// The form of a kind, by the kind's number 0 to 11, or none above that.
+    /// Operands that the kind does not use are ignored, and those that it uses are not checked.
     pub fn of_kind(kind: u8, a: u8, b: u8) -> Option<Form>
         ensures { result ≡ form_of kind a b }
     {
@@ -50,15 +55,8 @@ impl Form {
         ensures { result ≡ atom_fits self }
     {
         match self {
-            Form::Atom(p) => p <= 31,
-            Form::Absent(p) => p <= 31,
-            Form::Truth => true,
-            Form::Falsity => true,
-            Form::And(_, _) => true,
-            Form::Or(_, _) => true,
-            Form::Next(_, _) => true,
-            Form::Until(_, _, _) => true,
-            Form::Release(_, _, _) => true,
+            Form::Atom(p) | Form::Absent(p) => p <= 31,
+            _ => true,
         }
     }
 
@@ -68,15 +66,11 @@ impl Form {
         ensures earlier { result ≡ true → Earlier n self }
     {
         match self {
-            Form::And(i, j) => (i as usize) < n && (j as usize) < n,
-            Form::Or(i, j) => (i as usize) < n && (j as usize) < n,
-            Form::Next(_, i) => (i as usize) < n,
-            Form::Until(_, i, j) => (i as usize) < n && (j as usize) < n,
-            Form::Release(_, i, j) => (i as usize) < n && (j as usize) < n,
-            Form::Truth => true,
-            Form::Falsity => true,
-            Form::Atom(_) => true,
-            Form::Absent(_) => true,
+            Form::And(i, j) | Form::Or(i, j) | Form::Until(_, i, j) | Form::Release(_, i, j) => {
+                usize::from(i) < n && usize::from(j) < n
+            }
+            Form::Next(_, i) => usize::from(i) < n,
+            Form::Truth | Form::Falsity | Form::Atom(_) | Form::Absent(_) => true,
         }
     }
 }

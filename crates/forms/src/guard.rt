@@ -3,7 +3,7 @@ ghost use Rattle.std.specs.Prelude.{◌≡◌};
 
 use crate::table::Count;
 
-// Restores the count of before when it is dropped; `commit` lets the count stand.
+// Restores the count of before when it is dropped; `commit` lets the count stand. That a guard does so is a rule of this project.
 pub(crate) struct Restore<'a> {
     pub(crate) count: &'a mut Count,
     pub(crate) before: usize,

@@ -1,12 +1,12 @@
 use Rattle.std.proofs.Common.{◌≡◌}
 use Rattle.ctl.specs.Rounds.{start}
-use Rattle.fixpoint.specs.Sets.{overlay}
+use Rattle.fixpoint.specs.Sets.{overlay, starts_full}
 use Rattle.fixpoint.proofs.search.begin.Given as goal
 
 abbrev pub invariant-loop-i : goal.invariant-loop-i
 invariant-loop-i g l =
-    let s = g.S.SetPair in
-    (s.current l.sets ≡ overlay l.i (start l.all) (s.current l.initial.sets))
-    × (s.next l.sets ≡ s.next l.initial.sets)
-    × (s.room l.sets ≡ s.room l.initial.sets)
-    × (s.rest l.sets ≡ s.rest l.initial.sets)
+    let set = g.C.IndexSet in
+    record {
+      begun : set.members l.current ≡ overlay l.i (start (starts_full l.wanted)) (set.members l.initial.current);
+      rest : set.rest l.current ≡ set.rest l.initial.current;
+    }

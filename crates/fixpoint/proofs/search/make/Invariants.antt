@@ -4,9 +4,8 @@ use Rattle.fixpoint.proofs.search.make.Given as goal
 
 abbrev pub invariant-loop-i : goal.invariant-loop-i
 invariant-loop-i g l =
-    let s = g.S.SetPair in
-    let made = g.R.Round.step l.round (s.given (s.rest l.initial.sets)) (s.current l.initial.sets) in
-    (s.next l.sets ≡ overlay l.i made (s.next l.initial.sets))
-    × (s.current l.sets ≡ s.current l.initial.sets)
-    × (s.room l.sets ≡ s.room l.initial.sets)
-    × (s.rest l.sets ≡ s.rest l.initial.sets)
+    let next = g.N.IndexSet in
+    record {
+      made : next.members l.next ≡ overlay l.i (g.R.Round.step l.round l.current (g.C.IndexSet.members l.current)) (next.members l.initial.next);
+      rest : next.rest l.next ≡ next.rest l.initial.next;
+    }
