@@ -6,6 +6,7 @@ use Rattle.std.proofs.lemmas.Bool.{cases_lt}
 use Rattle.lines.specs.declared.command.Command.{Command}
 use Rattle.lines.specs.Grammar.{Asks}
 use Rattle.lines.specs.Kept.{KeptTells}
+use Rattle.lines.specs.Pieces.{IsKept}
 
 Asks_short : (line : List ℕ) (c : Command) → Asks line c → length line ≤ 100
 Asks_short [] c asks = absurd asks
@@ -44,9 +45,9 @@ keeps items before piece n e en =
     ]
 
 -- a list that a call adds to where it succeeds
-pub added : {E : Type 0} (r : Result Unit E) (was more want items : List ℕ) → items ≡ cond (is_ok r) (was ++ more) was → was ++ more ≡ want → IfOk r (λ _. items ≡ want)
-added (Ok x) was more want items e w = e ∙ w
-added (Err d) was more want items e w = tt
+pub added : {E : Type 0} (r : Result Unit E) (was more part items : List ℕ) → items ≡ cond (is_ok r) (was ++ more) was → IsKept was (was ++ more) part → IfOk r (λ _. IsKept was items part)
+added (Ok x) was more part items e keeps = λ before h. e ∙ keeps before h
+added (Err d) was more part items e keeps = tt
 
 pub still_short : (b : Bool) (n was more : ℕ) → n ≡ cond b (was + more) was → was + more ≤ 101 → n ≤ 101
 still_short true n was more e h = omega arith

@@ -1,16 +1,13 @@
 -- A reply line tells its word and its numbers.
-use Rattle.std.proofs.Common.{◌≡◌, ℕ, ◌^◌, ◌<◌, true, List, [], ◌∷◌, ◌++◌, codes, decimal, sym, refl, ◌∙◌, append_assoc, append-nil, arith, rules}
-use Rattle.std.proofs.lemmas.Str.Parse.{IsNumeralModel, numerals_by_fold}
+use Rattle.std.proofs.Common.{◌≡◌, ℕ, ◌^◌, ◌<◌, List, [], ◌∷◌, ◌++◌, codes, decimal, Ok, Err, Result, IfOk, sym, refl, ap, ◌∙◌, append_assoc, append-nil, arith}
 use Rattle.std.proofs.lemmas.Fmt.{digits_decimal, digits_value-decimal, decimal_nonempty, decimal_injective}
 use Rattle.lines.specs.declared.reply.Reply.{Reply}
 use Rattle.lines.specs.declared.reply.Reply.TheVariants.{Number, Numbers, Refused, RefusedAt}
-use Rattle.lines.specs.Decimals.{IsDecimal, read_on, all_digits, NoDigit}
+use Rattle.lines.specs.Decimals.{IsDecimal, NoDigit}
 use Rattle.lines.specs.Grammar.{WritesNumbers}
 use Rattle.lines.specs.Replies.{word, numbers, spaced_numbers, reply_line, reply_text, AreWide, LineDeterminesReply, ReadsBack}
+use Rattle.lines.proofs.Digits.{own}
 use Rattle.lines.proofs.Split.{one_split}
-
-own : IsNumeralModel (λ ds. all_digits ds ≡ true) (read_on 0)
-own = numerals_by_fold _ (search rules) read_on (search rules)
 
 -- a number is written as a line may write it
 pub IsDecimal-decimal : (n : ℕ) → n < 2 ^ 64 → IsDecimal (decimal n) n
@@ -69,3 +66,8 @@ reply_text-reply_line (Number n) = simp (append_assoc, append-nil)
 reply_text-reply_line (Numbers n m) = simp (append_assoc, append-nil)
 reply_text-reply_line (Refused refusal) = simp (append_assoc, append-nil)
 reply_text-reply_line (RefusedAt refusal part place) = simp (append_assoc, append-nil)
+
+-- a line to which a reply was written, where nothing stood before
+pub written : {E : Type 0} (r : Result Unit E) (before after : List ℕ) (reply : Reply) → IfOk r (λ _. after ≡ before ++ (reply_text reply ++ codes "\n")) → before ≡ [] → IfOk r (λ _. after ≡ reply_line reply)
+written (Ok x) before after reply e none = e ∙ ap (λ (l : List ℕ). l ++ (reply_text reply ++ codes "\n")) none ∙ reply_text-reply_line reply
+written (Err d) before after reply e none = tt

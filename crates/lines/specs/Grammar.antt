@@ -1,5 +1,5 @@
 -- The language of lines: which command a line asks for.
-use Rattle.std.specs.Prelude.{◌≡◌, ℕ, ◌^◌, ◌<◌, ◌≤◌, List, [], ◌∷◌, ◌++◌, length, Ok, Err, codes, Result, slice_index}
+use Rattle.std.specs.Prelude.{◌≡◌, ℕ, ◌^◌, ◌<◌, ◌≤◌, List, [], ◌∷◌, ◌++◌, length, Ok, Err, codes, Result, slice_index, ⊤}
 use Prim.Native.String.{String}
 use Rattle.forms.specs.declared.refusal.Refusal.{Refusal}
 use Rattle.forms.specs.declared.refusal.Refusal.TheVariants.{BadLine}
@@ -12,8 +12,8 @@ abbrev pub WritesNumbers : List ℕ → List ℕ → Type 0
 WritesNumbers text [] = text ≡ []
 WritesNumbers text (n ∷ ns) = (digits : List ℕ) × (rest : List ℕ) × (text ≡ codes " " ++ (digits ++ rest)) × IsDecimal digits n × WritesNumbers rest ns
 
-abbrev pub AreBytes : ℕ → ℕ → ℕ → Type 0
-AreBytes x a b = (x < 256) × (a < 256) × (b < 256)
+abbrev pub AreThreeBytes : ℕ → ℕ → ℕ → Type 0
+AreThreeBytes x a b = (x < 256) × (a < 256) × (b < 256)
 
 -- the byte of a letter
 abbrev pub byte_of : String → ℕ
@@ -21,9 +21,9 @@ byte_of letter = slice_index (codes letter) 0
 
 -- a letter and what follows it ask for the command
 abbrev pub Says : ℕ → List ℕ → Command → Type 0
-Says letter rest (Form kind a b) = (letter ≡ byte_of "F") × WritesNumbers rest (kind ∷ a ∷ b ∷ []) × AreBytes kind a b
+Says letter rest (Form kind a b) = (letter ≡ byte_of "F") × WritesNumbers rest (kind ∷ a ∷ b ∷ []) × AreThreeBytes kind a b
 Says letter rest (Open set) = (letter ≡ byte_of "O") × WritesNumbers rest (set ∷ [])
-Says letter rest (Node number a b) = (letter ≡ byte_of "N") × WritesNumbers rest (number ∷ a ∷ b ∷ []) × AreBytes number a b
+Says letter rest (Node number a b) = (letter ≡ byte_of "N") × WritesNumbers rest (number ∷ a ∷ b ∷ []) × AreThreeBytes number a b
 Says letter rest Enter = (letter ≡ byte_of "E") × WritesNumbers rest []
 Says letter rest Abandon = (letter ≡ byte_of "A") × WritesNumbers rest []
 Says letter rest (Strike at) = (letter ≡ byte_of "S") × WritesNumbers rest (at ∷ [])
@@ -34,13 +34,13 @@ Says letter rest (Show set state) = (letter ≡ byte_of "H") × WritesNumbers re
 
 -- a line of at most 100 bytes asks for the command
 abbrev pub Asks : List ℕ → Command → Type 0
-Asks [] c = ⊥
+Asks [] _ = ⊥
 Asks (letter ∷ rest) c = (length (letter ∷ rest) ≤ 100) × Says letter rest c
 
 -- the command that is asked for, or the refusal where there is none
-abbrev pub IsUnderstood : (Command → Type 0) → Result Command Refusal → Type 0
-IsUnderstood asks (Ok c) = asks c
-IsUnderstood asks (Err e) = (e ≡ BadLine) × ((c : Command) → asks c → ⊥)
+abbrev pub IsCommandResult : (Command → Type 0) → Result Command Refusal → Type 0
+IsCommandResult asks (Ok c) = asks c
+IsCommandResult asks (Err e) = (e ≡ BadLine) × ((c : Command) → asks c → ⊥)
 
 -- what tells a command from another: its letter, and its numbers or the bytes of its name
 abbrev pub key_of : Command → ℕ × List ℕ
@@ -61,16 +61,14 @@ AsksAtMostOne line = (c d : Command) → Asks line c → Asks line d → key_of 
 
 -- a command whose numbers are of 64 bits or of a byte, and whose name is of 98 bytes at most
 abbrev pub IsSayable : Command → Type 0
-IsSayable (Form kind a b) = AreBytes kind a b
+IsSayable (Form kind a b) = AreThreeBytes kind a b
 IsSayable (Open set) = set < 2 ^ 64
-IsSayable (Node number a b) = AreBytes number a b
-IsSayable Enter = Unit {0}
-IsSayable Abandon = Unit {0}
+IsSayable (Node number a b) = AreThreeBytes number a b
 IsSayable (Strike at) = at < 2 ^ 64
-IsSayable Clear = Unit {0}
 IsSayable (Stands set) = set < 2 ^ 64
 IsSayable (Read name) = length name.now ≤ 98
 IsSayable (Show set state) = (set < 2 ^ 64) × (state < 2 ^ 64)
+IsSayable _ = ⊤
 
 -- every such command has a line that asks for it
 abbrev pub SayableIsAskable : Type 0

@@ -3,3 +3,4 @@ pub mod Fields
 pub mod Grammar
 pub mod Kept
 pub mod Replies
+pub mod Pieces

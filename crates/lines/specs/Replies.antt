@@ -1,15 +1,14 @@
 -- How replies are written: a word, the numbers after single spaces, a line feed.
-use Rattle.std.specs.Prelude.{◌≡◌, ℕ, ◌^◌, ◌<◌, List, [], ◌∷◌, ◌++◌, codes, decimal}
+use Rattle.std.specs.Prelude.{◌≡◌, ℕ, ◌^◌, ◌<◌, List, [], ◌∷◌, ◌++◌, codes, decimal, ⊤}
 use Rattle.forms.specs.Refusals.{number_of}
 use Rattle.lines.specs.Grammar.{WritesNumbers}
 use Rattle.lines.specs.declared.reply.Reply.{Reply}
 use Rattle.lines.specs.declared.reply.Reply.TheVariants.{Number, Numbers, Refused, RefusedAt}
 
 abbrev pub word : Reply → List ℕ
-word (Number n) = codes "ok"
-word (Numbers n m) = codes "ok"
-word (Refused refusal) = codes "no"
-word (RefusedAt refusal part place) = codes "no"
+word (Number _) = codes "ok"
+word (Numbers _ _) = codes "ok"
+word _ = codes "no"
 
 abbrev pub numbers : Reply → List ℕ
 numbers (Number n) = n ∷ []
@@ -28,7 +27,7 @@ reply_line reply = word reply ++ (spaced_numbers (numbers reply) ++ codes "\n")
 
 -- numbers of 64 bits
 abbrev pub AreWide : List ℕ → Type 0
-AreWide [] = Unit {0}
+AreWide [] = ⊤
 AreWide (n ∷ ns) = (n < 2 ^ 64) × AreWide ns
 
 -- a line's numbers read back, by the grammar of lines, are the reply's numbers

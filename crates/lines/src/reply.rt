@@ -7,13 +7,17 @@ use forms::Refusal;
 use std::alloc::AllocError;
 use std::fmt;
 
-#[derive(Clone, Copy)]
+/// What the service answers to a line: `ok` and numbers where it was taken, `no` and the number of the refusal where not.
+#[derive(Clone, Copy, PartialEq, Eq, Debug)]
 pub enum Reply {
-    // A call was taken, and answers one number or two.
+    /// A call was taken, and answers one number.
     Number(u64),
+    /// A call was taken, and answers two numbers: of a show, the part of the set that holds, and the rounds.
     Numbers(u64, u64),
-    // A call was refused; in a file, at a record of a part.
+    /// A call or a line was refused.
     Refused(Refusal),
+    /// The reading of a file stopped at a refusal, at a record of a part, both counted from 0, and 0 where there is none.
+    /// At `PartKind` (15) the part is the contents line.
     RefusedAt {
         refusal: Refusal,
         part: u64,
@@ -28,23 +32,18 @@ impl fmt::Display for Reply {
         match *self {
             Reply::Number(n) => write!(f, "ok {n}"),
             Reply::Numbers(n, m) => write!(f, "ok {n} {m}"),
-            Reply::Refused(refusal) => {
-                let number = refusal.number();
-                write!(f, "no {number}")
-            }
+            Reply::Refused(refusal) => write!(f, "no {}", refusal.number()),
             Reply::RefusedAt {
                 refusal,
                 part,
                 record,
-            } => {
-                let number = refusal.number();
-                write!(f, "no {number} {part} {record}")
-            }
+            } => write!(f, "no {} {part} {record}", refusal.number()),
         }
     }
 }
 
-// Puts the reply's line, with its line feed, in place of what `line` holds, whose memory is used again.
+/// Puts the reply's line, with its line feed, in place of what `line` holds, whose memory is used again.
+/// It can run out of memory; what `line` holds then is left open.
 pub fn put_reply(line: &mut String, reply: Reply) -> Result<(), AllocError>
     ensures bytes { OnOk result (string_bytes line.new ≡ reply_line reply) }
     ensures determined { LineDeterminesReply }

@@ -1,4 +1,4 @@
 mod BelowTests
-mod RowFaults
 mod Decoding
 mod Successors
+mod Arrays

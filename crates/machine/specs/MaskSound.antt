@@ -3,11 +3,11 @@ use Rattle.std.specs.Prelude.{ℕ, refl}
 use Rattle.std.proofs.Common.{arith}
 use Rattle.std.proofs.lemmas.Nat.{and_le_l}
 use Rattle.ctl.specs.Model.{Model}
-use Rattle.machine.specs.Interface.{IsSound}
+use Rattle.machine.specs.Interface.{IsSoundMachine}
 use Rattle.machine.specs.Mask.{masked_model}
 
-pub IsSound-masked_model : (m : Model) (mask : ℕ) → IsSound m → IsSound (masked_model m mask)
-IsSound-masked_model m mask below = let serial = below.total.serial in record {
+pub IsSoundMachine-masked_model : (m : Model) (mask : ℕ) → IsSoundMachine m → IsSoundMachine (masked_model m mask)
+IsSoundMachine-masked_model m mask below = let serial = below.total.serial in record {
   total = record {
     serial = record { inhabited = serial.inhabited; successor = serial.successor; within = serial.within };
     blank = λ s h. rw (below.total.blank s h) refl;

@@ -1,5 +1,5 @@
 -- Two machines side by side.
-use Rattle.std.specs.Prelude.{◌≡◌, ℕ, ◌+◌, ◌*◌, ◌/◌, ◌%◌, ◌<◌, ◌≤◌, Bool, true, cond, ◌&&◌, Ok, Err, Decides, Result, bit_or, nat_le, nat_lt}
+use Rattle.std.specs.Prelude.{◌≡◌, ℕ, ◌+◌, ◌*◌, ◌/◌, ◌%◌, ◌<◌, ◌≤◌, Bool, true, if◌then◌else◌, ◌&&◌, Ok, Err, Decides, Result, bit_or, nat_le, nat_lt}
 use Rattle.ctl.specs.Model.{Model}
 use Rattle.forms.specs.declared.refusal.Refusal.{Refusal}
 use Rattle.forms.specs.declared.refusal.Refusal.TheVariants.{ProductSize}
@@ -9,7 +9,7 @@ use Rattle.forms.specs.declared.refusal.Refusal.TheVariants.{ProductSize}
 abbrev pub grid : (a b : Model) (rule : ℕ → ℕ → ℕ → ℕ → Bool) → Model
 grid a b rule = record {
   count = a.count * b.count;
-  atoms = λ s. cond (nat_lt s (a.count * b.count)) (bit_or (a.atoms (s / b.count)) (b.atoms (s % b.count))) 0;
+  atoms = λ s. if nat_lt s (a.count * b.count) then bit_or (a.atoms (s / b.count)) (b.atoms (s % b.count)) else 0;
   leads = λ s t.
       nat_lt s (a.count * b.count)
       && (nat_lt t (a.count * b.count) && rule (s / b.count) (s % b.count) (t / b.count) (t % b.count));
@@ -25,11 +25,11 @@ is_within_limit a b = nat_le (a.count * b.count) 1024
 
 -- the synchronous product; over the limit it means its left side alone
 abbrev pub product : (a b : Model) → Model
-product a b = cond (is_within_limit a b) (grid a b (synchronous_rule a b)) a
+product a b = if is_within_limit a b then grid a b (synchronous_rule a b) else a
 
 -- a number of pairs, or the refusal where there are too many
 abbrev pub limited_pairs : ℕ → Result ℕ Refusal
-limited_pairs pairs = cond (nat_le pairs 1024) (Ok pairs) (Err ProductSize)
+limited_pairs pairs = if nat_le pairs 1024 then Ok pairs else Err ProductSize
 
 -- the number of pairs of states, if it is within the limit
 abbrev pub pair_count : (a b : Model) → Result ℕ Refusal

@@ -4,7 +4,7 @@ use Rattle.std.proofs.Common.{sym, subst, ◌∙◌, inl, inr, ⊎_elim, mul-zer
 use Rattle.std.proofs.lemmas.Nat.{mul-le, mul-add-lt, div-mul-add, mod-mul-add, div_below, mod_below, or_lt, pow_pos}
 use Rattle.std.proofs.lemmas.Bool.{and_parts, and_from, ltb-true, lt-ltb, le-ltb, cond-false, cond-true, cond_both, leb-true, le-leb, cases_lt}
 use Rattle.ctl.specs.Model.{Model, IsSerial, IsTotal}
-use Rattle.machine.specs.Interface.{IsSound}
+use Rattle.machine.specs.Interface.{IsSoundMachine}
 use Rattle.machine.specs.Product.{grid, synchronous_rule, is_within_limit, product, pair, Sides, IsPairwise}
 
 -- what a rule owes: a successor of every pair
@@ -55,9 +55,9 @@ module _ (a b : Model) (rule : ℕ → ℕ → ℕ → ℕ → Bool) where
   }
 
   -- the grid of two machines within the limit, the left one alone over it
-  pub IsSound_limited : IsSound a → IsSound b → Follows a b rule → IsSound (cond (is_within_limit a b) (grid a b rule) a)
-  IsSound_limited left right follows =
-      cond_both (is_within_limit a b) (grid a b rule) a IsSound
+  pub IsSoundMachine_limited : IsSoundMachine a → IsSoundMachine b → Follows a b rule → IsSoundMachine (cond (is_within_limit a b) (grid a b rule) a)
+  IsSoundMachine_limited left right follows =
+      cond_both (is_within_limit a b) (grid a b rule) a IsSoundMachine
       (λ e. record {
         total = IsTotal-grid left.total right.total follows;
         bounded = leb-true _ _ e;
@@ -73,9 +73,9 @@ module _ (a b : Model) where
       let g = right.successor q h.right in
       (f.0, (g.0, (record { left = f.1.0; right = g.1.0 }, and_from _ _ f.1.1 g.1.1)))
 
-  pub IsSound-product : IsSound a → IsSound b → IsSound (product a b)
-  IsSound-product left right =
-      IsSound_limited a b (synchronous_rule a b) left right (Follows-synchronous_rule left.total.serial right.total.serial)
+  pub IsSoundMachine-product : IsSoundMachine a → IsSoundMachine b → IsSoundMachine (product a b)
+  IsSoundMachine-product left right =
+      IsSoundMachine_limited a b (synchronous_rule a b) left right (Follows-synchronous_rule left.total.serial right.total.serial)
 
   -- a grid with a state has a state on the right
   right_inhabited : (s : ℕ) → s < a.count * b.count → 1 ≤ b.count

@@ -1,14 +1,23 @@
 -- The rows of a sheet, decoded once from the bytes of a modes body.
-use Rattle.std.specs.Prelude.{◌≡◌, ℕ, ◌^◌, ◌<◌, Bool, List, [], map, length, ℤ, pos, ◌+ℤ◌, slice_index_or}
+use Rattle.std.specs.Prelude.{◌≡◌, ℕ, ◌+◌, ◌*◌, ◌^◌, ◌<◌, Bool, List, [], map, length, ℤ, pos, ◌+ℤ◌, slice_index, slice_index_or}
 use Rattle.std.specs.List.{range_with_len}
+use Rattle.std.specs.Int.{w16, cast_signed}
 use Rattle.ctl.specs.Model.{Model}
 use Rattle.ctl.specs.Search.{some}
 use Rattle.machine.specs.declared.row.Row.{Row}
-use Rattle.machine.specs.Sheet.{row_count, row_atoms, degree, offset, is_row, sheet}
+use Rattle.machine.specs.Sheet.{two_bytes, four_bytes, row_count, row_atoms, degree, offset, is_row, sheet}
 
 -- row s of a body
 abbrev pub decoded_row : List ℕ → ℕ → Row
 decoded_row bytes s = record { atoms = row_atoms bytes s; degree = degree bytes s; offsets = map (offset bytes s) (range_with_len 0 8) }
+
+-- the row in its own 21 bytes
+abbrev pub row_of : List ℕ → Row
+row_of bytes = record {
+  atoms = four_bytes bytes 0;
+  degree = slice_index bytes 4;
+  offsets = map (λ k. cast_signed w16 (two_bytes bytes (5 + 2 * k))) (range_with_len 0 8);
+}
 
 -- the first n rows of a body
 abbrev pub decoded_rows : List ℕ → ℕ → List Row

@@ -7,10 +7,10 @@ use Rattle.ctl.specs.Model.{IsSerial}
 use Rattle.ctl.specs.Search.{some, every}
 use Rattle.ctl.proofs.Search.{some_found, some_from, every_at}
 use Rattle.machine.specs.declared.row.Row.{Row}
-use Rattle.machine.specs.Interface.{IsSound}
+use Rattle.machine.specs.Interface.{IsSoundMachine}
 use Rattle.machine.specs.Sheet.{is_row}
-use Rattle.machine.specs.Rows.{no_row, target, row_leads, rows_model, IsNarrow}
-use Rattle.machine.specs.Faults.{is_inside, row_fault, IsFaultless}
+use Rattle.machine.specs.Rows.{no_row, target, row_leads, rows_model}
+use Rattle.machine.specs.Faults.{is_inside, row_fault, IsFaultless, IsSheet}
 
 -- a choice with a fault on one side that comes to none
 pub passes : {X : Type 0} (b : Bool) (rest : Option X) (e : X) → is_some (cond b rest (Some e)) ≡ false → (b ≡ true) × (is_some rest ≡ false)
@@ -75,9 +75,9 @@ module _ (rows : List Row) (clean : IsFaultless rows) where
     within = leads_within;
   }
 
-  pub IsSound-rows_model : 1 ≤ length rows → length rows ≤ 1024 → IsNarrow rows → IsSound (rows_model rows)
-  IsSound-rows_model inhabited few narrow = record {
-    total = record { serial = IsSerial-rows_model inhabited; blank = past_atoms rows };
-    bounded = few;
-    fits = narrow;
-  }
+pub IsSoundMachine-rows_model : (rows : List Row) → IsSheet rows → IsSoundMachine (rows_model rows)
+IsSoundMachine-rows_model rows in_order = record {
+  total = record { serial = IsSerial-rows_model rows in_order.clean in_order.inhabited; blank = past_atoms rows };
+  bounded = in_order.few;
+  fits = in_order.narrow;
+}

@@ -1,7 +1,7 @@
 -- The sheet: a machine written out row by row in the bytes of a modes body.
 -- A body is a two-byte row count n, then n rows of 21 bytes: atoms in four bytes, a count d, and eight signed two-byte offsets, of which
 -- the first d are read. Numbers are low byte first. The successors of row s are s plus each of its offsets.
-use Rattle.std.specs.Prelude.{◌≡◌, ℕ, ◌+◌, ◌*◌, ◌<◌, Bool, false, cond, ◌&&◌, List, ℤ, pos, negsuc, ◌+ℤ◌, Decides, ◌==◌, nat_lt, slice_index}
+use Rattle.std.specs.Prelude.{◌≡◌, ℕ, ◌+◌, ◌*◌, ◌<◌, Bool, false, if◌then◌else◌, ◌&&◌, List, ℤ, pos, negsuc, ◌+ℤ◌, Decides, ◌==◌, nat_lt, slice_index}
 use Rattle.std.specs.Int.{w16, cast_signed}
 use Rattle.ctl.specs.Model.{Model}
 use Rattle.ctl.specs.Search.{some}
@@ -37,7 +37,7 @@ offset bytes s k = cast_signed w16 (two_bytes bytes (row_start s + 5 + 2 * k))
 -- z is the number t
 abbrev pub is_row : ℕ → ℤ → Bool
 is_row t (pos u) = u == t
-is_row t (negsuc u) = false
+is_row _ (negsuc _) = false
 
 -- row s leads to row t by one of its offsets
 abbrev pub offset_leads : List ℕ → ℕ → ℕ → Bool
@@ -47,16 +47,16 @@ offset_leads bytes s t = some (degree bytes s) (λ k. is_row t (pos s +ℤ offse
 abbrev pub sheet : List ℕ → Model
 sheet bytes = record {
   count = row_count bytes;
-  atoms = λ s. cond (nat_lt s (row_count bytes)) (row_atoms bytes s) 0;
+  atoms = λ s. if nat_lt s (row_count bytes) then row_atoms bytes s else 0;
   leads = λ s t. nat_lt s (row_count bytes) && offset_leads bytes s t;
 }
 
 -- ---- What is claimed.
 
 -- t is row s plus one of the offsets that are read
-abbrev pub IsReached : List ℕ → ℕ → ℕ → Type 0
-IsReached bytes s t = (k : ℕ) × ((k < degree bytes s) × (pos t ≡ pos s +ℤ offset bytes s k))
+abbrev pub HasOffsetTo : List ℕ → ℕ → ℕ → Type 0
+HasOffsetTo bytes s t = (k : ℕ) × ((k < degree bytes s) × (pos t ≡ pos s +ℤ offset bytes s k))
 
 -- the successors of a row are the row plus each of its offsets, and nothing else has any
-abbrev pub SheetSuccessors : Type 0
-SheetSuccessors = (bytes : List ℕ) (s t : ℕ) → Decides ((sheet bytes).leads s t) ((s < row_count bytes) × IsReached bytes s t)
+abbrev pub SuccessorsAreOffsets : Type 0
+SuccessorsAreOffsets = (bytes : List ℕ) (s t : ℕ) → Decides ((sheet bytes).leads s t) ((s < row_count bytes) × HasOffsetTo bytes s t)

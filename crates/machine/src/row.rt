@@ -1,111 +1,91 @@
 // A row of a sheet, read from the bytes of a body.
-ghost use Rattle.std.specs.Prelude.{◌≡◌, ◌+◌, ◌<◌, ◌≤◌, length};
-ghost use Rattle.machine.specs.Sheet.{row_start, offset as offset_at, is_row};
-ghost use Rattle.machine.specs.Rows.{decoded_row, row_leads, target as target_of};
+ghost use Rattle.std.specs.Prelude.{◌≡◌, ◌<◌, ◌≤◌, take, pos, ◌+ℤ◌};
+ghost use Rattle.std.specs.Result.{result_err};
+ghost use Rattle.ctl.specs.Search.{every};
+ghost use Rattle.machine.specs.Sheet.{is_row};
+ghost use Rattle.machine.specs.Rows.{row_of, target, row_leads};
 ghost use Rattle.machine.specs.Faults.{is_inside, row_fault};
 
 use forms::Refusal;
+use std::array;
 
-// Atoms, and where the row leads: the first `degree` offsets count.
-#[derive(Clone, Copy)]
+// How many bytes of a body a row takes.
+pub(crate) const ROW_BYTES: usize = 21;
+
+// The offsets stand as in the body, since a row is read before it is checked, and one that tells of more than eight has
+// no list of them.
+/// Atoms, bit a for atom a, and where the row leads: from row s to s plus each of the first `degree` offsets.
+/// A row by itself may have any numbers; those of a sheet are checked.
+#[derive(Clone, Copy, PartialEq, Eq, Debug)]
 pub struct Row {
     pub(crate) atoms: u32,
     pub(crate) degree: u8,
     pub(crate) offsets: [i16; 8],
 }
 
-impl Row {
-    // Row s of a body.
-    pub(crate) fn read(bytes: &[u8], s: usize) -> Row
-        requires { row_start (s + 1) ≤ length bytes.now }
-        ensures { result ≡ decoded_row bytes.now s }
-    {
-        let i = 2 + 21 * s;
+impl From<&[u8; ROW_BYTES]> for Row {
+    ghost from_gives = { λ bytes row. row ≡ row_of bytes.now };
+
+    fn from(bytes: &[u8; ROW_BYTES]) -> Row {
+        let [a, b, c, d, degree, ..] = *bytes;
+        let (offsets, _) = bytes[5..].as_chunks::<2>();
         Row {
-            atoms: u32::from_le_bytes([bytes[i], bytes[i + 1], bytes[i + 2], bytes[i + 3]]),
-            degree: bytes[i + 4],
-            offsets: offsets(bytes, s),
+            atoms: u32::from_le_bytes([a, b, c, d]),
+            degree,
+            offsets: array::from_fn(|k| i16::from_le_bytes(offsets[k])),
         }
     }
+}
 
-    // What is wrong with this row as row s among n.
-    pub(crate) fn fault(&self, s: usize, n: usize) -> Option<Refusal>
-        requires { (s < 1024) × (n ≤ 1024) }
-        ensures { result ≡ row_fault n s self.now }
+impl Row {
+    // Refuses this row where, as row s of n, it is not in order.
+    pub(crate) fn check(&self, s: usize, n: usize) -> Result<(), Refusal>
+        ensures { result_err result ≡ row_fault n s self.now }
     {
-        if self.degree < 1 || self.degree > 8 {
-            return Some(Refusal::RowDegree);
+        if !(1..=8).contains(&self.degree) {
+            return Err(Refusal::RowDegree);
         }
-        for k in 0..self.degree as usize {
-            if !self.stays_inside(s, k, n) {
-                return Some(Refusal::RowOffset);
-            }
+        if !self.stays_inside(s, n) {
+            return Err(Refusal::RowOffset);
         }
-        None
+        Ok(())
     }
 
     // Whether this row as row s leads to row t.
     pub(crate) fn leads(&self, s: usize, t: usize) -> bool
-        requires { (s < 1024) × ((t < 1024) × (self.now.degree ≤ 8)) }
+        requires { self.now.degree ≤ 8 }
         ensures { result ≡ row_leads self.now s t }
     {
-        let degree = self.degree as usize;
-        for k in 0..degree {
-            if self.reaches(s, k, t) {
-                return true;
-            }
-        }
-        false
+        self.counted().iter().any(|&offset| reaches(s, offset, t))
     }
 
-    // Where offset k leads from row s, perhaps outside.
-    fn target(&self, s: usize, k: usize) -> i64
-        requires { (s < 1024) × (k < 8) }
-        ensures { result ≡ target_of self.now s k }
+    // Whether each offset that counts leads from row s to one of n rows.
+    fn stays_inside(&self, s: usize, n: usize) -> bool
+        requires { self.now.degree ≤ 8 }
+        ensures { result ≡ every self.now.degree (λ k. is_inside n (target self.now s k)) }
     {
-        s as i64 + self.offsets[k] as i64
+        self.counted().iter().all(|&offset| is_inside(s, offset, n))
     }
 
-    // Whether offset k leads from row s to one of n rows.
-    fn stays_inside(&self, s: usize, k: usize, n: usize) -> bool
-        requires { (s < 1024) × ((k < 8) × (n ≤ 1024)) }
-        ensures { result ≡ is_inside n (target_of self.now s k) }
+    // The offsets that count. That they are at most eight is asked, and no invariant, since a row is made before it is checked.
+    fn counted(&self) -> &[i16]
+        requires { self.now.degree ≤ 8 }
+        ensures { result.now ≡ take self.now.degree self.now.offsets }
     {
-        let t = self.target(s, k);
-        0 <= t && t < n as i64
-    }
-
-    // Whether offset k leads from row s to row t.
-    fn reaches(&self, s: usize, k: usize, t: usize) -> bool
-        requires { (s < 1024) × ((k < 8) × (t < 1024)) }
-        ensures { result ≡ is_row t (target_of self.now s k) }
-    {
-        self.target(s, k) == t as i64
+        &self.offsets[..self.degree.into()]
     }
 }
 
-// The eight offsets of row s of a body.
-fn offsets(bytes: &[u8], s: usize) -> [i16; 8]
-    requires { row_start (s + 1) ≤ length bytes.now }
-    ensures { result ≡ (decoded_row bytes.now s).offsets }
+// Whether an offset leads from row s to one of n rows.
+fn is_inside(s: usize, offset: i16, n: usize) -> bool
+    ensures { result ≡ is_inside n (pos s +ℤ offset) }
 {
-    [
-        offset(bytes, s, 0),
-        offset(bytes, s, 1),
-        offset(bytes, s, 2),
-        offset(bytes, s, 3),
-        offset(bytes, s, 4),
-        offset(bytes, s, 5),
-        offset(bytes, s, 6),
-        offset(bytes, s, 7),
-    ]
+    s.checked_add_signed(offset.into()).is_some_and(|t| t < n)
 }
 
-// Offset k of row s of a body.
-fn offset(bytes: &[u8], s: usize, k: usize) -> i16
-    requires { (row_start (s + 1) ≤ length bytes.now) × (k < 8) }
-    ensures { result ≡ offset_at bytes.now s k }
+// Whether an offset leads from row s to row t.
+fn reaches(s: usize, offset: i16, t: usize) -> bool
+    ensures { result ≡ is_row t (pos s +ℤ offset) }
 {
-    let i = 2 + 21 * s + 5 + 2 * k;
-    i16::from_le_bytes([bytes[i], bytes[i + 1]])
+    s.checked_add_signed(offset.into()) == Some(t)
 }

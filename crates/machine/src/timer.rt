@@ -1,29 +1,29 @@
 // The timer: a line of states with one atom at its end.
-ghost use Rattle.std.specs.Prelude.{◌≡◌, ◌<◌, ◌≤◌, IfOk};
+ghost use Rattle.std.specs.Prelude.{◌≡◌, None, IfOk};
 ghost use Rattle.std.specs.Result.{result_err};
 ghost use Rattle.machine.specs.Timer.{timer, timer_refusal};
-ghost use Rattle.machine.specs.TimerSound.{IsSound-timer};
+ghost use Rattle.machine.specs.TimerSound.{IsSoundMachine-shaped_timer};
 
 use crate::interface::{MOST_STATES, Machine};
 use forms::Refusal;
 
-// `states` states, of which the last has atom `atom` and leads to itself.
-#[derive(Clone, Copy)]
+/// `states` states, 1 to 1,024: state k leads to k + 1 alone, the last to itself alone.
+/// Atom `atom`, 0 to 31, holds at the last alone, and no other atom anywhere.
+#[derive(Clone, Copy, PartialEq, Eq, Debug)]
 pub struct Timer {
     states: usize,
     atom: u32,
-    ghost inhabited: { 1 ≤ states },
-    ghost few: { states ≤ 1024 },
-    ghost atomic: { atom < 32 },
+    ghost shape: { timer_refusal states atom ≡ None },
 }
 
 impl Timer {
-    // The timer of 1 to 1,024 states and an atom up to 31, else the refusal.
+    /// The timer of 1 to 1,024 states and an atom 0 to 31; refused with `TimerShape` (19) otherwise.
     pub fn new(states: usize, atom: u32) -> Result<Timer, Refusal>
         ensures refuses { result_err result ≡ timer_refusal states atom }
-        ensures makes { IfOk result (λ x. (x.states ≡ states) × (x.atom ≡ atom)) }
+        ensures long { IfOk result (λ x. x.states ≡ states) }
+        ensures marked { IfOk result (λ x. x.atom ≡ atom) }
     {
-        if states < 1 || states > MOST_STATES || atom > 31 {
+        if !(1..=MOST_STATES).contains(&states) || atom > 31 {
             return Err(Refusal::TimerShape);
         }
         Ok(Timer { states, atom })
@@ -33,7 +33,7 @@ impl Timer {
 impl Machine for Timer {
     ghost model = { λ x. timer x.states x.atom };
 
-    ghost sound = { λ x. IsSound-timer x.states x.atom x.inhabited x.few x.atomic };
+    ghost sound = { λ x. IsSoundMachine-shaped_timer x.states x.atom x.shape };
 
     fn count(&self) -> usize {
         self.states

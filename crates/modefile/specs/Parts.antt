@@ -1,11 +1,11 @@
 -- The parts of a file whose contents are in order.
-use Rattle.std.specs.Prelude.{ℕ, ◌+◌, ◌*◌, ◌<◌, ◌≤◌, Bool, cond, not, ◌&&◌, List, length, take, drop, is_some, Some, None, Ok, Err, Option, Result, nat_lt}
+use Rattle.std.specs.Prelude.{◌≡◌, ℕ, ◌+◌, ◌*◌, ◌<◌, ◌≤◌, Bool, true, if◌then◌else◌, not, ◌&&◌, List, length, take, drop, is_some, Ok, Err, Result, nat_lt}
 use Rattle.forms.specs.declared.refusal.Refusal.{Refusal}
 use Rattle.forms.specs.declared.refusal.Refusal.TheVariants.{NoPartLeft}
-use Rattle.forms.specs.declared.refusal.Rejected.{Rejected}
+use Rattle.modefile.specs.declared.part.Kind.{Kind}
 use Rattle.modefile.specs.declared.part.Part.{Part}
 use Rattle.modefile.specs.declared.part.Part.TheVariants.{Forms, Modes, Tree}
-use Rattle.modefile.specs.Contents.{count, kind_at, length_at, place_at, fault}
+use Rattle.modefile.specs.Contents.{count, kind_at, kind_number, length_at, place_at, fault}
 
 -- what is known of a part: the number of its kind, the bytes of its body, and where in the file they begin
 abbrev pub Told : Type 0
@@ -31,15 +31,21 @@ pub record IsWithin (bs : List ℕ) (i : ℕ) : Type 0 where
   pub kind : (1 ≤ kind_at bs i) × (kind_at bs i ≤ 3)
   pub body : place_at bs i + length_at bs i ≤ length bs
 
+-- a part that is there, with its kind and the length of its body
+pub record IsEntry (bs : List ℕ) (i : ℕ) (kind : Kind) (len : ℕ) : Type 0 where
+  pub there : has_part bs i ≡ true
+  pub within : IsWithin bs i
+  pub number : kind_number kind ≡ kind_at bs i
+  pub long : len ≡ length_at bs i
+  pub onward : place_at bs (i + 1) ≡ place_at bs i + len
+
 -- part i, if there is one
 abbrev pub part_at : List ℕ → ℕ → Result Told Refusal
-part_at bs i = cond (has_part bs i) (Ok (kind_at bs i, take (length_at bs i) (drop (place_at bs i) bs), place_at bs i)) (Err NoPartLeft)
+part_at bs i =
+    if has_part bs i
+    then Ok (kind_at bs i, take (length_at bs i) (drop (place_at bs i) bs), place_at bs i)
+    else Err NoPartLeft
 
 -- the number of the part to hand out after part i
 abbrev pub following_part : List ℕ → ℕ → ℕ
-following_part bs i = cond (has_part bs i) (i + 1) i
-
--- what a listing refuses
-abbrev pub refusal_of : {X : Type 0} → Result X Rejected → Option Rejected
-refusal_of (Ok listed) = None
-refusal_of (Err why) = Some why
+following_part bs i = if has_part bs i then i + 1 else i

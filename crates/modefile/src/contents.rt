@@ -1,97 +1,94 @@
 // What the contents of a file say of its parts.
-ghost use Rattle.std.specs.Prelude.{◌≡◌, ◌+◌, ◌*◌, ◌<◌, ◌≤◌, true, length};
-ghost use Rattle.modefile.specs.Contents.{count, length_at, place_at, is_shaped, is_known, unknown_from, fault};
-ghost use Rattle.modefile.specs.Parts.{has_part, IsWithin};
+ghost use Rattle.std.specs.Prelude.{◌≡◌, ◌+◌, ◌*◌, ◌<◌, ◌≤◌, true, false, length, None, MatchOption};
+ghost use Rattle.std.specs.Result.{result_err};
+ghost use Rattle.modefile.specs.Contents.{count, lines_of, length_of, place_at, is_shaped, unknown_from, fault};
+ghost use Rattle.modefile.specs.Parts.{has_part, IsEntry};
 
+use crate::part::Kind;
 use forms::{Refusal, Rejected};
 
-// Why the file is refused, if it is.
-pub(crate) fn first_fault(bytes: &[u8]) -> Option<Rejected>
-    ensures { result ≡ fault bytes.now }
+// That the contents lines are all there is asked of three functions: a struct of such bytes would be taken apart at once.
+
+// How many bytes a contents line has.
+pub(crate) const LINE_BYTES: usize = 5;
+
+// Refuses a file whose contents are not in order.
+pub(crate) fn check(bytes: &[u8]) -> Result<(), Rejected>
+    ensures { result_err result ≡ fault bytes.now }
 {
-    if !well_shaped(bytes) {
-        return Some(Rejected {
-            refusal: Refusal::FileShape,
-            at: 0,
-        });
+    if !is_shaped(bytes) {
+        return Err(Refusal::FileShape.at(0));
     }
-    let parts = bytes[0] as usize;
-    if let Some(line) = unknown_kind(bytes, parts) {
-        return Some(Rejected {
-            refusal: Refusal::PartKind,
-            at: line,
-        });
+    if let Some(line) = unknown_kind(bytes) {
+        return Err(Refusal::PartKind.at(line));
     }
-    if place_of(bytes, parts) != bytes.len() {
-        return Some(Rejected {
-            refusal: Refusal::PartLengths,
-            at: 0,
-        });
+    if end(bytes) != bytes.len() {
+        return Err(Refusal::PartLengths.at(0));
     }
-    None
+    Ok(())
 }
 
-// Whether the contents are in order and tell of a part `line`.
-pub(crate) fn has_part(bytes: &[u8], line: usize) -> bool
-    ensures value { result ≡ has_part bytes.now line }
-    ensures within { result ≡ true → IsWithin bytes.now line }
+// The contents lines, one for each part.
+pub(crate) fn lines(bytes: &[u8]) -> &[[u8; LINE_BYTES]]
+    requires { 1 + 5 * count bytes.now ≤ length bytes.now }
+    ensures value { result.now ≡ lines_of bytes.now }
+    ensures len { length result.now ≡ count bytes.now }
 {
-    first_fault(bytes).is_none() && line < bytes[0] as usize
+    let (lines, _) = bytes[1..].as_chunks::<LINE_BYTES>();
+    &lines[..usize::from(bytes[0])]
 }
 
-// Where part `line` begins; for the count of the parts, where the last one ends.
-pub(crate) fn place_of(bytes: &[u8], line: usize) -> usize
-    requires { (1 + 5 * line ≤ length bytes.now) × (line ≤ 16) }
-    ensures { result ≡ place_at bytes.now line }
+// The length of a body in its contents line, low byte first.
+pub(crate) fn length_of(line: &[u8; LINE_BYTES]) -> usize
+    ensures value { result ≡ length_of line.now }
+    ensures bound { result < 4294967296 }
 {
-    let mut place = 1 + 5 * bytes[0] as usize;
-    for i in 0..line {
-        place += length_at(bytes, i);
+    let [_, a, b, c, d] = *line;
+    // a cast, since there is no `From` between these two
+    u32::from_le_bytes([a, b, c, d]) as usize
+}
+
+// The kind of part i and the length of its body, if a file in order has such a part.
+pub(crate) fn entry(bytes: &[u8], i: usize) -> Option<(Kind, usize)>
+    requires { fault bytes.now ≡ None }
+    ensures { MatchOption result
+        (has_part bytes.now i ≡ false) (λ entry. IsEntry bytes.now i entry.0 entry.1) }
+{
+    let line = lines(bytes).get(i)?;
+    Some((Kind::try_from(line[0]).unwrap(), length_of(line)))
+}
+
+// The first of the contents lines whose kind is unknown.
+fn unknown_kind(bytes: &[u8]) -> Option<usize>
+    requires { 1 + 5 * count bytes.now ≤ length bytes.now }
+    ensures { result ≡ unknown_from bytes.now 0 (count bytes.now) }
+{
+    lines(bytes)
+        .iter()
+        .position(|line| Kind::try_from(line[0]).is_err())
+}
+
+// Where the last body ends. A loop, since the proof that the sum of a chain fits did not close.
+fn end(bytes: &[u8]) -> usize
+    requires whole { 1 + 5 * count bytes.now ≤ length bytes.now }
+    requires few { count bytes.now ≤ 16 }
+    ensures { result ≡ place_at bytes.now (count bytes.now) }
+{
+    let lines = lines(bytes);
+    let mut place = 1 + LINE_BYTES * lines.len();
+    for line in lines {
+        place += length_of(line);
     }
     place
 }
 
-// The length of a part's body, low byte first.
-pub(crate) fn length_at(bytes: &[u8], line: usize) -> usize
-    requires { (5 + 5 * line < length bytes.now) × (line < 16) }
-    ensures value { result ≡ length_at bytes.now line }
-    ensures bound { result < 4294967296 }
-{
-    let i = 2 + 5 * line;
-    bytes[i] as usize
-        + 256 * bytes[i + 1] as usize
-        + 65536 * bytes[i + 2] as usize
-        + 16777216 * bytes[i + 3] as usize
-}
-
-// The first of the contents lines whose kind is unknown.
-fn unknown_kind(bytes: &[u8], parts: usize) -> Option<usize>
-    requires { (1 + 5 * parts ≤ length bytes.now) × (parts ≤ 16) }
-    ensures { result ≡ unknown_from bytes.now 0 parts }
-{
-    for line in 0..parts {
-        if !is_known(bytes[1 + 5 * line]) {
-            return Some(line);
-        }
-    }
-    None
-}
-
-// Whether a kind is that of forms, modes or a tree.
-fn is_known(kind: u8) -> bool
-    ensures { result ≡ is_known kind }
-{
-    1 <= kind && kind <= 3
-}
-
 // Whether the file's size and count are in bounds, and its contents are not cut short.
-fn well_shaped(bytes: &[u8]) -> bool
+fn is_shaped(bytes: &[u8]) -> bool
     ensures value { result ≡ is_shaped bytes.now }
-    ensures whole { result ≡ true → (count bytes.now ≤ 16) × (1 + 5 * count bytes.now ≤ length bytes.now) }
+    ensures few { result ≡ true → count bytes.now ≤ 16 }
+    ensures whole { result ≡ true → 1 + 5 * count bytes.now ≤ length bytes.now }
 {
-    0 < bytes.len()
-        && bytes.len() <= 65536
-        && 0 < bytes[0]
-        && bytes[0] <= 16
-        && 1 + 5 * bytes[0] as usize <= bytes.len()
+    (1..=65536).contains(&bytes.len())
+        && (1..=16).contains(&bytes[0])
+        && 1 + LINE_BYTES * usize::from(bytes[0]) <= bytes.len()
 }

@@ -5,5 +5,5 @@ mod contents;
 pub mod part;
 pub mod reader;
 
-pub use part::Part;
+pub use part::{Kind, Part};
 pub use reader::{Closed, Fresh, Listed};

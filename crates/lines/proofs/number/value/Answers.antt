@@ -1,23 +1,14 @@
-use Rattle.std.proofs.Common.{◌+◌, ◌-◌, ◌*◌, get_or, drop, sym, ap, ◌∙◌, arith}
-use Rattle.std.proofs.lemmas.List.{at_drop_all}
-use Rattle.lines.specs.Decimals.{read_on}
-use Rattle.lines.proofs.Digits.{digit_here, digits_after, is_digit_bounds, reads_more, read_on_grows}
+use Rattle.std.proofs.Common.{◌≡◌, rules}
+use Rattle.std.proofs.lemmas.Str.Parse.{parse_digits}
+use Rattle.lines.proofs.Digits.{own, IsValue_parsed, IsUtf8_digits}
 use Rattle.lines.proofs.number.value.Goals as goal
 
-pub overflow_sub-b : goal.overflow_sub-b
-overflow_sub-b c = (is_digit_bounds _ (digit_here c.args.digits.now c.loop-b.b-index (omega arith) c.loop-b.invariant.0)).0
-
-pub returns-then-n-digit : goal.returns-then-n-digit
-returns-then-n-digit c =
-    let more = reads_more c.args.digits.now c.loop-b.b-index (omega arith) c.loop-b.n in
-    omega (arith, more, c.loop-b.invariant.1, c.from-digit.ensures, read_on_grows (10 * c.loop-b.n + (get_or c.args.digits.now c.loop-b.b-index 0 - 48)) (drop (c.loop-b.b-index + 1) c.args.digits.now))
-
-pub loop-b-preserved : goal.loop-b-preserved
-loop-b-preserved c = (
-  digits_after c.args.digits.now c.loop-b.b-index (omega arith) c.loop-b.invariant.0,
-  ap (λ k. read_on (10 * c.loop-b.n + k) (drop (c.loop-b.b-index + 1) c.args.digits.now)) c.from-digit.ensures
-      ∙ reads_more c.args.digits.now c.loop-b.b-index (omega arith) c.loop-b.n ∙ c.loop-b.invariant.1,
-)
+pub unwrap-text-requires : goal.unwrap-text-requires
+unwrap-text-requires c = search (rules, IsUtf8_digits c.args.digits.now c.requires)
 
 pub returns : goal.returns
-returns c = sym (at_drop_all (read_on c.loop-b.n) c.args.digits.now c.loop-b.b-index (omega arith)) ∙ c.loop-b.invariant.1
+returns c =
+    let digits = c.args.digits.now in
+    let text : c.unwrap-text.result.now ≡ digits = search rules in
+    let parsed = rw text at c.parse.ensures.value.0 in
+    IsValue_parsed digits c.parse.result c.map_err.result c.requires (parse_digits own 64 digits _ parsed c.requires) c.map_err.ensures.cases (λ e why k. search rules)

@@ -1,16 +1,18 @@
-use Rattle.std.proofs.Common.{◌≡◌, true, false, sym, ◌∙◌, arith}
-use Rattle.modefile.specs.Contents.{is_known, kind_at}
-use Rattle.modefile.proofs.Order.{unknown_from_here}
+use Rattle.std.proofs.Common.{ℕ, List, sym, ◌∙◌, rules}
+use borrow.Author.Tests.{tests}
+use Rattle.std.specs.List.{slice_index}
+use Rattle.std.specs.Result.{is_err}
+use Rattle.std.proofs.lemmas.Iterator.{YieldsList-from_slice}
+use Rattle.std.proofs.lemmas.Iterator.Search.{position_from_yields_List}
+use Rattle.std.proofs.lemmas.Iterator.Adapters.{position_from-zero}
+use Rattle.modefile.specs.Contents.{count, lines_of, kind_of}
+use Rattle.modefile.proofs.Order.{unknown_from_lines}
 use Rattle.modefile.proofs.contents.unknown_kind.Goals as goal
 
-pub returns-then-not-is_known : goal.returns-then-not-is_known
-returns-then-not-is_known c =
-    let odd : is_known (kind_at c.args.bytes.now c.loop-line.line) ≡ false = cc in
-    let here = unknown_from_here c.args.bytes.now c.loop-line.line c.args.parts (omega arith) in
-    sym (c.loop-line.invariant ∙ here ∙ rw odd)
-
-pub loop-line-preserved : goal.loop-line-preserved
-loop-line-preserved c =
-    let fine : is_known (kind_at c.args.bytes.now c.loop-line.line) ≡ true = cc in
-    let here = unknown_from_here c.args.bytes.now c.loop-line.line c.args.parts (omega arith) in
-    c.loop-line.invariant ∙ here ∙ rw fine
+pub returns : goal.returns
+returns c =
+    let bytes = c.args.bytes.now in
+    let unknown = λ (line : List ℕ). is_err (kind_of (slice_index line 0)) in
+    position_from_yields_List unknown _ _ c.position.result c.position.ensures.ran (YieldsList-from_slice (lines_of bytes) cc) (λ x b q k. search (rules, tests))
+    ∙ position_from-zero unknown (lines_of bytes)
+    ∙ sym (unknown_from_lines bytes 0 (count bytes))
