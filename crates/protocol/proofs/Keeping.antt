@@ -8,7 +8,7 @@ use Rattle.forms.specs.Sets.{is_within}
 use Rattle.forms.proofs.Formed.{IsWellFormed_grown}
 use Rattle.forms.proofs.Accepting.{Earlier_accepted, accepted_room}
 use Rattle.forms.proofs.SetsWithin.{is_within_below}
-use Rattle.machine.specs.Interface.{IsSound as IsSoundMachine}
+use Rattle.machine.specs.Interface.{IsSoundMachine}
 use Rattle.tableau.specs.Walk as Walk
 use Rattle.tableau.specs.Walk.{start, Run}
 use Rattle.tableau.proofs.Walking.{Run-append, closed_walk_refutes}
@@ -20,11 +20,11 @@ use Rattle.protocol.specs.declared.line.Line.{Line}
 use Rattle.protocol.specs.State.{State, made_state, most_lines, standing, with_book, with_walk, with_line, without}
 use Rattle.protocol.specs.Bodies.{Body, forms_body, tree_body, set_of, steps_of}
 use Rattle.protocol.specs.Calls.{Call, form, open_at, node, enter, abandon, show, strike, clear, load, Outcome, on_form, on_open, on_node, on_enter, on_show, load_forms, load_tree, on_load, outcome, state_after}
-use Rattle.protocol.specs.Runs.{IsLawful as IsLawfulCall}
+use Rattle.protocol.specs.Runs.{IsLawfulCall}
 use Rattle.protocol.specs.Invariant.{Tells, IsTrueLine, IsWalked, IsSound}
 use Rattle.protocol.proofs.Growing.{is_within_grows, holds_more, SetHolds_less}
 use Rattle.protocol.proofs.Marks.{held_part-SetHolds}
-use Rattle.protocol.proofs.BookLines.{all_push, all_without, AllLines_map, IsDistinct_push, IsDistinct-without, length_without}
+use Rattle.protocol.proofs.BookLines.{all_push, all_without, AllLines_map, HasNoSetTwice_push, HasNoSetTwice-without, length_without}
 use Rattle.protocol.proofs.Outcomes.{Leaves, Leaves-outcome_given, Leaves-state_of}
 use Rattle.protocol.proofs.Successors.{Leaves-on_form, Leaves-on_open, Leaves-on_node, Leaves-on_enter, Leaves-on_abandon, Leaves-on_show, Leaves-on_strike, Leaves-load_forms, Leaves-load_tree}
 
@@ -76,7 +76,7 @@ lined s set how h free room k =
     record {
       lawful = h.lawful;
       short = omega (arith, length_push s.book line);
-      distinct = IsDistinct_push s.book line h.distinct free;
+      distinct = HasNoSetTwice_push s.book line h.distinct free;
       lines = all_push (IsTrueLine s.table) s.book line h.lines k;
       walked = h.walked;
     }
@@ -97,7 +97,7 @@ struck s line h =
     record {
       lawful = h.lawful;
       short = omega (arith, h.short, length_without line s.book);
-      distinct = IsDistinct-without line s.book h.distinct;
+      distinct = HasNoSetTwice-without line s.book h.distinct;
       lines = all_without (IsTrueLine s.table) line s.book h.lines;
       walked = h.walked;
     }

@@ -40,11 +40,11 @@ module _ (line : Line) where
   outcome_has s enter h = inl (enter_has s h)
   outcome_has s abandon h = inl (Leaves-on_abandon Has s h)
   outcome_has s (show set state machine marks scratch) h = inl (Leaves-on_show Has s set state machine marks scratch h λ _ _ _ _ _. pushed_has s set Possible h)
-  outcome_has s (strike n) h = go (stays_or_struck n s.book h.1)
+  outcome_has s (strike n) h = by_cases (stays_or_struck n s.book h.1)
     where
-      go : InBook line (without n s.book) ⊎ Removes (strike n) line s.book → Leaves Has (outcome s (strike n)) ⊎ Removes (strike n) line s.book
-      go (inl k) = inl (Leaves-on_strike Has s n k)
-      go (inr k) = inr k
+      by_cases : InBook line (without n s.book) ⊎ Removes (strike n) line s.book → Leaves Has (outcome s (strike n)) ⊎ Removes (strike n) line s.book
+      by_cases (inl k) = inl (Leaves-on_strike Has s n k)
+      by_cases (inr k) = inr k
   outcome_has s clear h = inr tt
   outcome_has s (load (forms_body bytes)) h =
       inl (Leaves-outcome_given Has _ _ (load_forms s (records bytes)) λ _. Leaves-load_forms Has (λ t r. form_has t r.0 r.1 r.2) s (records bytes) h)
@@ -54,8 +54,8 @@ module _ (line : Line) where
       inl (Leaves-outcome_given Has _ _ (load_tree s set sts) λ _. Leaves-load_tree Has open_has (λ t r. node_has t r.0 r.1 r.2) enter_has s set sts h)
 
   pub lines_stay : (s : State) (call : Call) → Has s → Has (state_after s call) ⊎ Removes call line s.book
-  lines_stay s call h = go (outcome_has s call h)
+  lines_stay s call h = by_cases (outcome_has s call h)
     where
-      go : Leaves Has (outcome s call) ⊎ Removes call line s.book → Has (state_after s call) ⊎ Removes call line s.book
-      go (inl k) = inl (Leaves-state_of Has s (outcome s call) h k)
-      go (inr k) = inr k
+      by_cases : Leaves Has (outcome s call) ⊎ Removes call line s.book → Has (state_after s call) ⊎ Removes call line s.book
+      by_cases (inl k) = inl (Leaves-state_of Has s (outcome s call) h k)
+      by_cases (inr k) = inr k

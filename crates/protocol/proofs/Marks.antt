@@ -5,11 +5,11 @@ use Rattle.std.proofs.lemmas.Bool.{and_parts, and_from, eqb-true, eq-eqb}
 use Rattle.ctl.specs.Model.{Model, IsSerial}
 use Rattle.forms.specs.Forms.{Table}
 use Rattle.forms.specs.Meaning.{SetHolds}
-use Rattle.forms.specs.Sets.{member, is_within, contained}
+use Rattle.forms.specs.Sets.{member, is_within, is_subset}
 use Rattle.forms.proofs.SetsWithin.{is_within_below}
 use Rattle.label.specs.Show.{mark}
 use Rattle.label.proofs.Marks.{member-mark}
-use Rattle.tableau.proofs.SetLaws.{member-bit_and, member-contained, contained-member}
+use Rattle.tableau.proofs.SetLaws.{member-bit_and, member-is_subset, is_subset-member}
 use Rattle.protocol.specs.Calls.{held_part}
 use Rattle.protocol.specs.Promises.{HeldTells}
 
@@ -25,12 +25,12 @@ held_tells T m serial set t state f = (
 module _ (T : Table) (m : Model) (serial : IsSerial m) (set t : ℕ) (state : t < m.count) where
   -- where the held part is the set, the set holds
   pub held_part-SetHolds : held_part T m set t ≡ set → SetHolds T m set t
-  unfolding held_part contained
-  held_part-SetHolds e = (state, λ f b. ((member-mark T m serial t state f).0 (member-contained set (mark T m t) f (eq-eqb (bit_and set (mark T m t)) set e) b)).1)
+  unfolding held_part is_subset
+  held_part-SetHolds e = (state, λ f b. ((member-mark T m serial t state f).0 (member-is_subset set (mark T m t) f (eq-eqb (bit_and set (mark T m t)) set e) b)).1)
 
   -- where the set holds, the held part is the set
   pub SetHolds-held_part : is_within T set ≡ true → SetHolds T m set t → held_part T m set t ≡ set
-  unfolding held_part contained
+  unfolding held_part is_subset
   SetHolds-held_part inside h =
       eqb-true (bit_and set (mark T m t)) set
-      (contained-member set (mark T m t) (λ f b. (member-mark T m serial t state f).1 (is_within_below T set inside f b, h.1 f b)))
+      (is_subset-member set (mark T m t) (λ f b. (member-mark T m serial t state f).1 (is_within_below T set inside f b, h.1 f b)))

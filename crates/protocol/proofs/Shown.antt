@@ -9,7 +9,7 @@ use Rattle.label.specs.Show.{rounds_of}
 use Rattle.protocol.specs.declared.line.Standing.{Standing}
 use Rattle.protocol.specs.declared.line.Standing.TheVariants.{Impossible, Possible}
 use Rattle.protocol.specs.State.{State, most_lines, standing, is_free, with_line}
-use Rattle.protocol.specs.Calls.{show, Outcome, taken, outcome_given, held_part, state_shown, on_show, Answer, ok, refused, answer, state_after, state_of, answer_of}
+use Rattle.protocol.specs.Calls.{show, Outcome, taken, outcome_given, held_part, state_after_show, on_show, Answer, ok, refused, answer, state_after, state_of, answer_of}
 use Rattle.protocol.specs.Runs.{IsAccepted}
 use Rattle.protocol.specs.Promises.{StandsAs}
 use Rattle.protocol.specs.Invariant.{IsTrueLine, IsSound}
@@ -22,11 +22,11 @@ module _ (s : State) (set t : ℕ) (m : Model) (marks scratch : ℕ) where
   record Passed : Type 0 where
     inside : is_within s.table set ≡ true
     below : t < m.count
-    is : on_show s set t m marks scratch ≡ taken (held_part s.table m set t ∷ rounds_of s.table m ∷ []) (state_shown s set (held_part s.table m set t))
+    is : on_show s set t m marks scratch ≡ taken (held_part s.table m set t ∷ rounds_of s.table m ∷ []) (state_after_show s set (held_part s.table m set t))
 
   accepted_passed : IsAccepted (answer s (show set t m marks scratch)) → Passed
   accepted_passed a =
-      let last : Outcome = taken (held_part s.table m set t ∷ rounds_of s.table m ∷ []) (state_shown s set (held_part s.table m set t)) in
+      let last : Outcome = taken (held_part s.table m set t ∷ rounds_of s.table m ∷ []) (state_after_show s set (held_part s.table m set t)) in
       let b₁ : Bool = is_within s.table set in
       let b₂ : Bool = ltb t m.count in
       let b₃ : Bool = leb m.count marks && leb m.count scratch in
@@ -41,23 +41,23 @@ module _ (s : State) (set t : ℕ) (m : Model) (marks scratch : ℕ) where
       record { inside = p₁.0; below = ltb-true t m.count p₂.0; is = p₁.1 ∙ p₂.1 ∙ p₃.1 ∙ p₄.1 }
 
   -- a sound register, shown all of the set
-  StandsAs-state_shown : IsSound s → IsSerial m → Passed → held_part s.table m set t ≡ set → StandsAs (state_shown s set (held_part s.table m set t)) set Possible
-  StandsAs-state_shown h serial p e = go (standing s.book set) refl
+  StandsAs-state_after_show : IsSound s → IsSerial m → Passed → held_part s.table m set t ≡ set → StandsAs (state_after_show s set (held_part s.table m set t)) set Possible
+  StandsAs-state_after_show h serial p e = by_cases (standing s.book set) refl
     where
       test : (o : Option Standing) → standing s.book set ≡ o → (eqb (held_part s.table m set t) set && is_free (standing s.book set)) ≡ is_free o
       test o k = ap (λ b. b && is_free (standing s.book set)) (eq-eqb (held_part s.table m set t) set e) ∙ ap is_free k
 
-      go : (o : Option Standing) → standing s.book set ≡ o → StandsAs (state_shown s set (held_part s.table m set t)) set Possible
-      go None k = ap (λ b. standing (cond b (with_line s set Possible) s).book set) (test None k) ∙ standing_pushed s.book set Possible k
-      go (Some Possible) k = ap (λ b. standing (cond b (with_line s set Possible) s).book set) (test (Some Possible) k) ∙ k
-      go (Some Impossible) k =
+      by_cases : (o : Option Standing) → standing s.book set ≡ o → StandsAs (state_after_show s set (held_part s.table m set t)) set Possible
+      by_cases None k = ap (λ b. standing (cond b (with_line s set Possible) s).book set) (test None k) ∙ standing_pushed s.book set Possible k
+      by_cases (Some Possible) k = ap (λ b. standing (cond b (with_line s set Possible) s).book set) (test (Some Possible) k) ∙ k
+      by_cases (Some Impossible) k =
           absurd ((AllLines-standing (IsTrueLine s.table) s.book set Impossible h.lines k).1 m serial t (held_part-SetHolds s.table m serial set t p.below e))
 
   pub all_held_possible : IsSound s → IsSerial m → IsAccepted (answer s (show set t m marks scratch)) → held_part s.table m set t ≡ set
       → StandsAs (state_after s (show set t m marks scratch)) set Possible
   all_held_possible h serial a e =
       let p = accepted_passed a in
-      ap (λ o. standing (state_of s o).book set) p.is ∙ StandsAs-state_shown h serial p e
+      ap (λ o. standing (state_of s o).book set) p.is ∙ StandsAs-state_after_show h serial p e
 
   pub holding_possible : IsSound s → IsSerial m → IsAccepted (answer s (show set t m marks scratch)) → SetHolds s.table m set t
       → StandsAs (state_after s (show set t m marks scratch)) set Possible

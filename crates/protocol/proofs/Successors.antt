@@ -13,7 +13,7 @@ use Rattle.tableau.specs.declared.goals.Step.{Step}
 use Rattle.tableau.specs.Steps.{step_of}
 use Rattle.tableau.specs.Walk as Walk
 use Rattle.tableau.specs.Walk.{Walk, start}
-use Rattle.walk.specs.Progress.{Progress, absent, present, progress_after, open_result, step_result, abandon_result, finish_result}
+use Rattle.walk.specs.Progress.{Progress, absent, present, progress_result, open_result, step_result, abandon_result, finish_result}
 use Rattle.protocol.specs.declared.line.Standing.{Standing}
 use Rattle.protocol.specs.declared.line.Standing.TheVariants.{Impossible, Possible}
 use Rattle.protocol.specs.State.{State, most_lines, standing, is_free, with_table, with_book, with_walk, with_line, without}
@@ -36,33 +36,33 @@ found T walk st (Walk.denied why) e = tt
 
 StepFound_lem : (T : Table) (walk : Walk) (number a b : ℕ) → StepFound T walk (Walk.node_bytes T walk number a b)
 StepFound_lem T Walk.closed number a b = tt
-StepFound_lem T (Walk.under_way goal frames) number a b = go (step_of number a b)
+StepFound_lem T (Walk.under_way goal frames) number a b = by_cases (step_of number a b)
   where
-    go : (o : Option Step) → StepFound T (Walk.under_way goal frames) (elim o [ None ↦ Walk.denied NoSuchStep | Some step ↦ Walk.node T (Walk.under_way goal frames) step ])
-    go None = tt
-    go (Some st) = found T (Walk.under_way goal frames) st _ refl
+    by_cases : (o : Option Step) → StepFound T (Walk.under_way goal frames) (elim o [ None ↦ Walk.denied NoSuchStep | Some step ↦ Walk.node T (Walk.under_way goal frames) step ])
+    by_cases None = tt
+    by_cases (Some st) = found T (Walk.under_way goal frames) st _ refl
 
 module _ (P : State → Type 0) (s : State) where
   pub Leaves-on_form : (kind a b : ℕ) → ((x : Form) → accepted_form (length s.table) kind a b ≡ Ok x → P (with_table s (s.table ++ x ∷ []))) → Leaves P (on_form s kind a b)
-  Leaves-on_form kind a b h = go (accepted_form (length s.table) kind a b) refl
+  Leaves-on_form kind a b h = by_cases (accepted_form (length s.table) kind a b) refl
     where
-      go : (r : Result Form Refusal) → accepted_form (length s.table) kind a b ≡ r → Leaves P (form_outcome s r)
-      go (Ok x) e = h x e
-      go (Err why) e = tt
+      by_cases : (r : Result Form Refusal) → accepted_form (length s.table) kind a b ≡ r → Leaves P (form_outcome s r)
+      by_cases (Ok x) e = h x e
+      by_cases (Err why) e = tt
 
   pub Leaves-on_open : (set : ℕ) → (is_within s.table set ≡ true → P (with_walk s (present set (start set)))) → Leaves P (on_open s set)
-  Leaves-on_open set h = Leaves-outcome_given P (is_within s.table set) _ _ λ inside. go s.walk (h inside)
+  Leaves-on_open set h = Leaves-outcome_given P (is_within s.table set) _ _ λ inside. by_cases s.walk (h inside)
     where
-      go : (p : Progress) → P (with_walk s (present set (start set))) → Leaves P (walk_outcome s (open_result p set))
-      go absent k = k
-      go (present root walk) k = tt
+      by_cases : (p : Progress) → P (with_walk s (present set (start set))) → Leaves P (walk_outcome s (open_result p set))
+      by_cases absent k = k
+      by_cases (present root walk) k = tt
 
   pub Leaves-on_node : (number a b : ℕ)
       → ((root : ℕ) (walk : Walk) (st : Step) (later : Walk) → s.walk ≡ present root walk → Walk.node s.table walk st ≡ Walk.accepted later → P (with_walk s (present root later)))
       → Leaves P (on_node s number a b)
   Leaves-on_node number a b h = at s.walk refl
     where
-      to : (root : ℕ) (walk : Walk) → s.walk ≡ present root walk → (n : Walk.Node) → StepFound s.table walk n → Leaves P (walk_outcome s (progress_after root n))
+      to : (root : ℕ) (walk : Walk) → s.walk ≡ present root walk → (n : Walk.Node) → StepFound s.table walk n → Leaves P (walk_outcome s (progress_result root n))
       to root walk e (Walk.accepted later) f = h root walk f.0 later e f.1
       to root walk e (Walk.denied why) f = tt
 
@@ -99,7 +99,7 @@ module _ (P : State → Type 0) (s : State) where
       Leaves-outcome_given P (ltb state m.count) _ _ λ below.
       Leaves-outcome_given P (leb m.count marks && leb m.count scratch) _ _ λ _.
       Leaves-outcome_given P (not (is_free (standing s.book set)) || ltb (length s.book) most_lines) _ _ λ room.
-      go (eqb part set && free) refl inside below room
+      by_cases (eqb part set && free) refl inside below room
     where
       part : ℕ
       part = held_part s.table m set state
@@ -111,12 +111,12 @@ module _ (P : State → Type 0) (s : State) where
       line_free true e k = ltb-true (length s.book) most_lines k
       line_free false e k = absurd (both_ways false refl e)
 
-      go : (b : Bool) → (eqb part set && free) ≡ b → is_within s.table set ≡ true → ltb state m.count ≡ true
+      by_cases : (b : Bool) → (eqb part set && free) ≡ b → is_within s.table set ≡ true → ltb state m.count ≡ true
           → (not free || ltb (length s.book) most_lines) ≡ true → P (cond b (with_line s set Possible) s)
-      go true e inside below room =
+      by_cases true e inside below room =
           let k = and_parts (eqb part set) free e in
           h inside (ltb-true state m.count below) (eqb-true part set k.0) (is_free_none (standing s.book set) k.1) (line_free free k.1 room)
-      go false e inside below room = same
+      by_cases false e inside below room = same
 
   pub Leaves-on_strike : (line : ℕ) → P (with_book s (without line s.book)) → Leaves P (on_strike s line)
   Leaves-on_strike line h = Leaves-outcome_given P (ltb line (length s.book)) _ _ λ _. h

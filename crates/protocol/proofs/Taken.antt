@@ -11,7 +11,7 @@ use Rattle.tableau.specs.Walk.{Walk, start, Run}
 use Rattle.tableau.specs.Tree.{Tree, steps}
 use Rattle.tableau.proofs.Bytes.{tree_is_in_bytes}
 use Rattle.tableau.proofs.Walking.{tree_taken}
-use Rattle.walk.specs.Progress.{absent, present, progress_after, open_result}
+use Rattle.walk.specs.Progress.{absent, present, progress_result, open_result}
 use Rattle.protocol.specs.declared.line.Standing.TheVariants.{Impossible}
 use Rattle.protocol.specs.State.{State, most_lines, standing, is_free, with_walk, with_line}
 use Rattle.protocol.specs.Calls as Calls
@@ -61,9 +61,9 @@ node_taken : (s : State) (set : ℕ) (walk later : Walk) (number a b : ℕ) (st 
 node_taken s set Walk.closed later number a b st reads e = absurd (subst Passes (sym e) tt)
 node_taken s set (Walk.under_way g frames) later number a b st reads e =
     ap
-    (λ o. walk_outcome (with_walk s (present set (Walk.under_way g frames))) (progress_after set (elim o [ None ↦ Walk.denied NoSuchStep | Some step ↦ Walk.node s.table (Walk.under_way g frames) step ])))
+    (λ o. walk_outcome (with_walk s (present set (Walk.under_way g frames))) (progress_result set (elim o [ None ↦ Walk.denied NoSuchStep | Some step ↦ Walk.node s.table (Walk.under_way g frames) step ])))
     reads
-    ∙ ap (λ n. walk_outcome (with_walk s (present set (Walk.under_way g frames))) (progress_after set n)) e
+    ∙ ap (λ n. walk_outcome (with_walk s (present set (Walk.under_way g frames))) (progress_result set n)) e
 
 run_leads : (s : State) (set : ℕ) (walk : Walk) (nodes : List Call) (sts : List Step) (end : Walk) (calls : List Call) (final : State) → Brings nodes sts → Run s.table walk sts end
     → Leads (with_walk s (present set end)) calls final → Leads (with_walk s (present set walk)) (nodes ++ calls) final
@@ -72,11 +72,11 @@ run_leads s set walk nodes sts end calls final b Walk.done h = none_left nodes b
     none_left : (nodes : List Call) → Brings nodes [] → Leads (with_walk s (present set end)) calls final → Leads (with_walk s (present set end)) (nodes ++ calls) final
     none_left nodes Brings.no_more k = k
 run_leads s set walk nodes sts end calls final b (Walk.then {later = later} {step = st} {steps = rest} e r) h =
-    go nodes b (λ more c. run_leads s set later more rest end calls final c r h)
+    by_cases nodes b (λ more c. run_leads s set later more rest end calls final c r h)
   where
-    go : (nodes : List Call) → Brings nodes (st ∷ rest) → ((more : List Call) → Brings more rest → Leads (with_walk s (present set later)) (more ++ calls) final)
+    by_cases : (nodes : List Call) → Brings nodes (st ∷ rest) → ((more : List Call) → Brings more rest → Leads (with_walk s (present set later)) (more ++ calls) final)
         → Leads (with_walk s (present set walk)) (nodes ++ calls) final
-    go nodes (Brings.then {number} {a} {b} {nodes = more} reads c) on =
+    by_cases nodes (Brings.then {number} {a} {b} {nodes = more} reads c) on =
         leads_on (with_walk s (present set walk)) (node number a b) (more ++ calls) (length (Walk.waiting_goals later) ∷ []) (with_walk s (present set later)) final
         (node_taken s set walk later number a b st reads e) (on more c)
 

@@ -19,5 +19,5 @@ abbrev pub steps_of : List ℕ → List Record
 steps_of bytes = records (drop 8 bytes)
 
 -- whether a tree body can have its length
-abbrev pub is_tree_length : List ℕ → Bool
-is_tree_length bytes = nat_le 8 (length bytes) && (length bytes - 8) % 3 == 0
+abbrev pub has_tree_length : List ℕ → Bool
+has_tree_length bytes = nat_le 8 (length bytes) && (length bytes - 8) % 3 == 0

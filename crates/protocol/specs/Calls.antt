@@ -1,10 +1,10 @@
 -- The calls of the register: what each answers, when it is refused, and the register after it.
-use Rattle.std.specs.Prelude.{ℕ, suc, Bool, true, false, cond, not, ◌&&◌, ◌||◌, List, [], ◌∷◌, ◌++◌, length, Ok, Err, Result, ◌==◌, bit_and, nat_le, nat_lt}
+use Rattle.std.specs.Prelude.{ℕ, suc, Bool, true, false, if◌then◌else◌, not, ◌&&◌, ◌||◌, List, [], ◌∷◌, ◌++◌, length, Ok, Err, Result, ◌==◌, bit_and, nat_le, nat_lt}
 use Rattle.ctl.specs.Model.{Model}
 use Rattle.forms.specs.declared.form.Form.{Form}
 use Rattle.forms.specs.declared.refusal.Refusal.{Refusal}
 use Rattle.forms.specs.declared.refusal.Refusal.TheVariants.{SetBeyondTable, StateBeyondMachine, BuffersTooShort, BodyLength, BookFull, SetStands, NoSuchLine}
-use Rattle.forms.specs.Bodies.{Record, records, is_forms_length}
+use Rattle.forms.specs.Bodies.{Record, records, has_forms_length}
 use Rattle.forms.specs.Forms.{Table}
 use Rattle.forms.specs.Sets.{is_within}
 use Rattle.forms.specs.Tables.{accepted_form}
@@ -12,7 +12,7 @@ use Rattle.label.specs.Show.{mark, rounds_of}
 use Rattle.walk.specs.Progress.{Progress, absent, open_result, step_result, abandon_result, finish_result, waiting_in}
 use Rattle.protocol.specs.declared.line.Standing.TheVariants.{Impossible, Possible}
 use Rattle.protocol.specs.State.{State, made_state, most_lines, standing, is_free, with_table, with_book, with_walk, with_line, without}
-use Rattle.protocol.specs.Bodies.{Body, forms_body, tree_body, set_of, steps_of, is_tree_length}
+use Rattle.protocol.specs.Bodies.{Body, forms_body, tree_body, set_of, steps_of, has_tree_length}
 
 -- the nine calls, each with what the caller brings; of the marks and the scratch that a show is lent, their lengths count
 pub data Call : Type 0 where
@@ -73,8 +73,8 @@ unfoldable pub held_part : Table → Model → (set t : ℕ) → ℕ
 held_part T m set t = bit_and set (mark T m t)
 
 -- after a show that found this part of the set
-abbrev pub state_shown : State → (set part : ℕ) → State
-state_shown s set part = cond (part == set && is_free (standing s.book set)) (with_line s set Possible) s
+abbrev pub state_after_show : State → (set part : ℕ) → State
+state_after_show s set part = if part == set && is_free (standing s.book set) then with_line s set Possible else s
 
 abbrev pub on_show : State → (set state : ℕ) → Model → (marks scratch : ℕ) → Outcome
 on_show s set state m marks scratch =
@@ -82,7 +82,7 @@ on_show s set state m marks scratch =
     (outcome_given (nat_lt state m.count) StateBeyondMachine
     (outcome_given (nat_le m.count marks && nat_le m.count scratch) BuffersTooShort
     (outcome_given (not (is_free (standing s.book set)) || nat_lt (length s.book) most_lines) BookFull
-    (taken (held_part s.table m set state ∷ rounds_of s.table m ∷ []) (state_shown s set (held_part s.table m set state))))))
+    (taken (held_part s.table m set state ∷ rounds_of s.table m ∷ []) (state_after_show s set (held_part s.table m set state))))))
 
 abbrev pub on_strike : State → ℕ → Outcome
 on_strike s line = outcome_given (nat_lt line (length s.book)) NoSuchLine (taken (line ∷ []) (with_book s (without line s.book)))
@@ -120,8 +120,8 @@ abbrev pub load_tree : State → ℕ → List Record → Outcome
 load_tree s set steps = and_then (on_open s set) (λ begun. and_then (in_turn node_on begun 0 steps) (λ ended. at_record (length steps) (on_enter ended)))
 
 abbrev pub on_load : State → Body → Outcome
-on_load s (forms_body bytes) = outcome_given (is_forms_length bytes) BodyLength (load_forms s (records bytes))
-on_load s (tree_body bytes) = outcome_given (is_tree_length bytes) BodyLength (load_tree s (set_of bytes) (steps_of bytes))
+on_load s (forms_body bytes) = outcome_given (has_forms_length bytes) BodyLength (load_forms s (records bytes))
+on_load s (tree_body bytes) = outcome_given (has_tree_length bytes) BodyLength (load_tree s (set_of bytes) (steps_of bytes))
 
 abbrev pub outcome : State → Call → Outcome
 outcome s (form kind a b) = on_form s kind a b

@@ -1,6 +1,6 @@
 -- What holds of a register after any calls.
-use Rattle.std.specs.Prelude.{◌≡◌, ℕ, ◌≤◌, true, List, [], ◌∷◌, length, None}
-use Rattle.forms.specs.Forms.{Table, IsLawful}
+use Rattle.std.specs.Prelude.{◌≡◌, ℕ, ◌≤◌, true, List, [], ◌∷◌, length, None, ⊤}
+use Rattle.forms.specs.Forms.{Table, IsLawfulTable}
 use Rattle.forms.specs.Sets.{is_within}
 use Rattle.tableau.specs.declared.goals.Step.{Step}
 use Rattle.tableau.specs.Walk.{start, Run}
@@ -21,22 +21,22 @@ abbrev pub IsTrueLine : Table → Line → Type 0
 IsTrueLine T line = (is_within T line.set ≡ true) × Tells T line.set line.standing
 
 abbrev pub AllLines : (Line → Type 0) → Book → Type 0
-AllLines P [] = Unit {0}
+AllLines P [] = ⊤
 AllLines P (line ∷ book) = P line × AllLines P book
 
 -- no set has two lines
-abbrev pub IsDistinct : Book → Type 0
-IsDistinct [] = Unit {0}
-IsDistinct (line ∷ book) = (standing book line.set ≡ None) × IsDistinct book
+abbrev pub HasNoSetTwice : Book → Type 0
+HasNoSetTwice [] = ⊤
+HasNoSetTwice (line ∷ book) = (standing book line.set ≡ None) × HasNoSetTwice book
 
 -- the walk came from its root set by accepted steps over the present table
 abbrev pub IsWalked : Table → Progress → Type 0
-IsWalked T absent = Unit {0}
+IsWalked T absent = ⊤
 IsWalked T (present root walk) = (is_within T root ≡ true) × ((sts : List Step) × Run T (start root) sts walk)
 
 pub record IsSound (s : State) : Type 0 where
-  pub lawful : IsLawful s.table
+  pub lawful : IsLawfulTable s.table
   pub short : length s.book ≤ most_lines
-  pub distinct : IsDistinct s.book
+  pub distinct : HasNoSetTwice s.book
   pub lines : AllLines (IsTrueLine s.table) s.book
   pub walked : IsWalked s.table s.walk

@@ -1,11 +1,11 @@
 -- What the register promises of every run.
-use Rattle.std.specs.Prelude.{◌≡◌, ℕ, zero, suc, ◌<◌, true, ◌⊎◌, ◌↔◌, List, [], ◌∷◌, ◌++◌, length, Some, None}
+use Rattle.std.specs.Prelude.{◌≡◌, ℕ, zero, suc, ◌<◌, true, ◌⊎◌, ◌↔◌, List, [], ◌∷◌, ◌++◌, length, Some, None, ⊤}
 use Rattle.ctl.specs.Model.{Model, IsSerial}
 use Rattle.ctl.specs.Meaning.{Holds}
 use Rattle.forms.specs.Forms.{Table}
 use Rattle.forms.specs.Meaning.{formula, SetHolds}
 use Rattle.forms.specs.Sets.{member, is_within}
-use Rattle.machine.specs.Interface.{IsSound}
+use Rattle.machine.specs.Interface.{IsSoundMachine}
 use Rattle.tableau.specs.declared.goals.Focus.TheVariants.{Nowhere}
 use Rattle.tableau.specs.declared.goals.Step.{Step}
 use Rattle.tableau.specs.Steps.{step_of}
@@ -17,8 +17,8 @@ use Rattle.protocol.specs.declared.line.Standing.{Standing}
 use Rattle.protocol.specs.declared.line.Standing.TheVariants.{Impossible, Possible}
 use Rattle.protocol.specs.declared.line.Line.{Line}
 use Rattle.protocol.specs.State.{Book, State, most_lines, standing}
-use Rattle.protocol.specs.Calls.{Call, form, open_at, node, enter, abandon, show, strike, clear, load, held_part, ok, answer, state_after}
-use Rattle.protocol.specs.Runs.{IsLawful, AllLawful, AllAccepted, IsAccepted, state_from, reached_state, history, brought_forms}
+use Rattle.protocol.specs.Calls.{Call, open_at, node, enter, show, strike, clear, held_part, ok, answer, state_after}
+use Rattle.protocol.specs.Runs.{IsLawfulCall, AllLawful, AllAccepted, IsAccepted, state_from, reached_state, history, brought_forms}
 
 -- the set stands so in the register
 abbrev pub StandsAs : State → ℕ → Standing → Type 0
@@ -30,7 +30,7 @@ HoldsNowhere T set = (m : Model) → IsSerial m → (t : ℕ) → SetHolds T m s
 
 -- some state of a machine that the interface can show holds it
 abbrev pub HoldsSomewhere : Table → ℕ → Type 0
-HoldsSomewhere T set = (m : Model) × (IsSound m × ((t : ℕ) × SetHolds T m set t))
+HoldsSomewhere T set = (m : Model) × (IsSoundMachine m × ((t : ℕ) × SetHolds T m set t))
 
 -- the held part of a set has those of its forms that hold at the state
 abbrev pub HeldTells : Type 0
@@ -49,14 +49,8 @@ InBook line book = (n : ℕ) × LineAt line n book
 -- the call strikes that line, or clears the register
 abbrev pub Removes : Call → Line → Book → Type 0
 Removes (strike n) line book = LineAt line n book
-Removes clear line book = Unit {0}
-Removes (form kind a b) line book = ⊥
-Removes (open_at set) line book = ⊥
-Removes (node number a b) line book = ⊥
-Removes enter line book = ⊥
-Removes abandon line book = ⊥
-Removes (show set state machine marks scratch) line book = ⊥
-Removes (load body) line book = ⊥
+Removes clear line book = ⊤
+Removes _ line book = ⊥
 
 -- the calls are node with each of the steps, in order; the bytes that a step does not use may be any
 pub data Brings : List Call → List Step → Type 0 where
@@ -81,15 +75,15 @@ pub record PromisesOf (calls : List Call) : Type 0 where
   -- Possible means possible: a set that stands as possible holds at some state of some machine;
   pub possible_holds_somewhere : (set : ℕ) → StandsAs (reached_state calls) set Possible → HoldsSomewhere (reached_state calls).table set
   -- an accepted show on a machine and at a state where all of the set holds leaves it standing as possible,
-  pub shown_is_possible : (set t : ℕ) (m : Model) (marks scratch : ℕ) → IsLawful (show set t m marks scratch)
+  pub shown_is_possible : (set t : ℕ) (m : Model) (marks scratch : ℕ) → IsLawfulCall (show set t m marks scratch)
       → IsAccepted (answer (reached_state calls) (show set t m marks scratch)) → SetHolds (reached_state calls).table m set t
       → StandsAs (state_after (reached_state calls) (show set t m marks scratch)) set Possible
   -- and so does one that replies with all of the set;
-  pub all_held_is_possible : (set t : ℕ) (m : Model) (marks scratch rounds : ℕ) → IsLawful (show set t m marks scratch)
+  pub all_held_is_possible : (set t : ℕ) (m : Model) (marks scratch rounds : ℕ) → IsLawfulCall (show set t m marks scratch)
       → answer (reached_state calls) (show set t m marks scratch) ≡ ok (set ∷ rounds ∷ [])
       → StandsAs (state_after (reached_state calls) (show set t m marks scratch)) set Possible
   -- a line goes only by a strike of that line or by clear
-  pub lines_stay : (call : Call) → IsLawful call → (line : Line) → InBook line (reached_state calls).book
+  pub lines_stay : (call : Call) → IsLawfulCall call → (line : Line) → InBook line (reached_state calls).book
       → InBook line (state_after (reached_state calls) call).book ⊎ Removes call line (reached_state calls).book
   -- A walk tells the truth: if the set that it was opened at holds at some state of a model, then the set of some goal that waits
   -- holds at some state of the same model; so where the walk is closed there is no such state

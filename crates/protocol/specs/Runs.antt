@@ -1,12 +1,12 @@
 -- Runs of calls from the making of a register on.
-use Rattle.std.specs.Prelude.{ℕ, ◌^◌, ◌<◌, List, [], ◌∷◌, ◌++◌, Some, None, Option}
-use Rattle.forms.specs.declared.form.Form.{Form}
+use Rattle.std.specs.Prelude.{ℕ, ◌^◌, ◌<◌, List, [], ◌∷◌, ◌++◌, ⊤}
+use Rattle.std.specs.Option.{option_to_list}
 use Rattle.forms.specs.Bodies.{Record, records}
 use Rattle.forms.specs.Forms.{Table, form_of}
-use Rattle.machine.specs.Interface.{IsSound}
+use Rattle.machine.specs.Interface.{IsSoundMachine}
 use Rattle.protocol.specs.State.{State, made_state}
 use Rattle.protocol.specs.Bodies.{forms_body, tree_body}
-use Rattle.protocol.specs.Calls.{Call, form, open_at, node, enter, abandon, show, strike, clear, load, Answer, ok, refused, answer, state_after}
+use Rattle.protocol.specs.Calls.{Call, form, open_at, node, show, clear, load, Answer, ok, refused, answer, state_after}
 
 abbrev pub IsByte : ℕ → Type 0
 IsByte n = n < 256
@@ -15,25 +15,22 @@ abbrev pub IsWord : ℕ → Type 0
 IsWord n = n < 2 ^ 64
 
 abbrev pub AreBytes : List ℕ → Type 0
-AreBytes [] = Unit {0}
+AreBytes [] = ⊤
 AreBytes (x ∷ rest) = IsByte x × AreBytes rest
 
 -- what a caller brings has the width of its type, and a machine keeps the interface's law
-abbrev pub IsLawful : Call → Type 0
-IsLawful (form kind a b) = IsByte kind × IsByte a × IsByte b
-IsLawful (open_at set) = IsWord set
-IsLawful (node number a b) = IsByte number × IsByte a × IsByte b
-IsLawful enter = Unit {0}
-IsLawful abandon = Unit {0}
-IsLawful (show set state machine marks scratch) = IsWord set × IsSound machine
-IsLawful (strike line) = Unit {0}
-IsLawful clear = Unit {0}
-IsLawful (load (forms_body bytes)) = AreBytes bytes
-IsLawful (load (tree_body bytes)) = AreBytes bytes
+abbrev pub IsLawfulCall : Call → Type 0
+IsLawfulCall (form kind a b) = IsByte kind × IsByte a × IsByte b
+IsLawfulCall (open_at set) = IsWord set
+IsLawfulCall (node number a b) = IsByte number × IsByte a × IsByte b
+IsLawfulCall (show set state machine marks scratch) = IsWord set × IsSoundMachine machine
+IsLawfulCall (load (forms_body bytes)) = AreBytes bytes
+IsLawfulCall (load (tree_body bytes)) = AreBytes bytes
+IsLawfulCall _ = ⊤
 
 abbrev pub AllLawful : List Call → Type 0
-AllLawful [] = Unit {0}
-AllLawful (call ∷ calls) = IsLawful call × AllLawful calls
+AllLawful [] = ⊤
+AllLawful (call ∷ calls) = IsLawfulCall call × AllLawful calls
 
 abbrev pub state_from : State → List Call → State
 state_from s [] = s
@@ -56,20 +53,16 @@ history calls = history_from made_state calls
 
 -- every call is accepted
 abbrev pub IsAccepted : Answer → Type 0
-IsAccepted (ok numbers) = Unit {0}
+IsAccepted (ok numbers) = ⊤
 IsAccepted (refused why at) = ⊥
 
 abbrev pub AllAccepted : State → List Call → Type 0
-AllAccepted s [] = Unit {0}
+AllAccepted s [] = ⊤
 AllAccepted s (call ∷ calls) = IsAccepted (answer s call) × AllAccepted (state_after s call) calls
-
-abbrev pub optional_form : Option Form → Table
-optional_form None = []
-optional_form (Some x) = x ∷ []
 
 -- a form as it is stored, without the operands that its kind does not use
 abbrev pub stored_form : Record → Table
-stored_form r = optional_form (form_of r.0 r.1 r.2)
+stored_form r = option_to_list (form_of r.0 r.1 r.2)
 
 abbrev pub stored_forms : List Record → Table
 stored_forms [] = []
@@ -80,13 +73,7 @@ abbrev pub brought_by : Table → Call → Table
 brought_by T (form kind a b) = T ++ stored_form (kind, a, b)
 brought_by T (load (forms_body bytes)) = T ++ stored_forms (records bytes)
 brought_by T clear = []
-brought_by T (load (tree_body bytes)) = T
-brought_by T (open_at set) = T
-brought_by T (node number a b) = T
-brought_by T enter = T
-brought_by T abandon = T
-brought_by T (show set state machine marks scratch) = T
-brought_by T (strike line) = T
+brought_by T _ = T
 
 abbrev pub brought_if_accepted : Table → Call → Answer → Table
 brought_if_accepted T call (ok numbers) = brought_by T call

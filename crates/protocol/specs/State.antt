@@ -1,5 +1,6 @@
 -- What the register keeps: a table of forms, a book of lines, and a walk.
-use Rattle.std.specs.Prelude.{ℕ, suc, Bool, true, false, cond, List, [], ◌∷◌, ◌++◌, take, drop, Some, None, Option, ◌==◌}
+use Rattle.std.specs.Prelude.{ℕ, suc, Bool, true, false, List, [], ◌∷◌, ◌++◌, take, drop, find, Some, None, Option, ◌==◌}
+use Rattle.std.specs.Option.{option_map}
 use Rattle.forms.specs.Forms.{Table}
 use Rattle.walk.specs.Progress.{Progress, absent}
 use Rattle.protocol.specs.declared.line.Standing.{Standing}
@@ -21,10 +22,9 @@ made_state = record { table = []; book = []; walk = absent }
 abbrev pub most_lines : ℕ
 most_lines = 64
 
--- how the set stands, by its line in the book
+-- how the set stands, by the first line of the book that is its own
 abbrev pub standing : Book → ℕ → Option Standing
-standing [] set = None
-standing (line ∷ book) set = cond (line.set == set) (Some line.standing) (standing book set)
+standing book set = option_map (λ line. line.standing) (find (λ line. line.set == set) book)
 
 -- it stands neither way
 abbrev pub is_free : Option Standing → Bool

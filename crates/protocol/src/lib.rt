@@ -7,7 +7,7 @@ ghost use Rattle.protocol.specs.Promises.{Promises, HeldTells};
 
 pub use line::{Line, Standing};
 
-// What the register promises of every run of its calls, and what the held part of a show tells. It does nothing.
+/// What the register promises of every run of its calls, and what the held part of a show tells. It does nothing.
 pub fn promises_kept()
     ensures promises { Promises }
     ensures held { HeldTells }

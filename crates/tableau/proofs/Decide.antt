@@ -10,7 +10,7 @@ use Rattle.forms.specs.Sets.{member}
 use Rattle.forms.specs.declared.form.Quantifier.{Quantifier}
 use Rattle.forms.specs.declared.form.Quantifier.TheVariants.{Exists, Every}
 use Rattle.forms.specs.declared.form.Form.{Form}
-use Rattle.forms.specs.declared.form.Form.TheVariants.{Truth, Falsity, Atom, Absent, And, Or, Next, Until, Release}
+use Rattle.forms.specs.declared.form.Form.TheVariants.{Truth, Until}
 use Rattle.forms.specs.Forms.{Table, IsWellFormed, form}
 use Rattle.forms.specs.Meaning.{formula, SetHolds}
 use Rattle.tableau.proofs.Untils.{AtSuccessors, Reach}
@@ -87,14 +87,7 @@ module _ (T : Table) (w : IsWellFormed T) (m : Model) (serial : IsSerial m) wher
 
   Dec-WithinForm : (x : Form) (k s : ℕ) → s < m.count → Dec (WithinForm T m x k s)
   Dec-WithinForm (Until q i j) k s h = Dec-Reach q i j k s h
-  Dec-WithinForm Truth k s h = no (λ e. e)
-  Dec-WithinForm Falsity k s h = no (λ e. e)
-  Dec-WithinForm (Atom p) k s h = no (λ e. e)
-  Dec-WithinForm (Absent p) k s h = no (λ e. e)
-  Dec-WithinForm (And i j) k s h = no (λ e. e)
-  Dec-WithinForm (Or i j) k s h = no (λ e. e)
-  Dec-WithinForm (Next q i) k s h = no (λ e. e)
-  Dec-WithinForm (Release q i j) k s h = no (λ e. e)
+  Dec-WithinForm _ k s h = no (λ e. e)
 
   -- what is past the table holds everywhere
   past : (f s : ℕ) → length T ≤ f → Has T m f s
@@ -122,25 +115,18 @@ module _ (T : Table) (w : IsWellFormed T) (m : Model) (serial : IsSerial m) wher
 
   none_yet : (x : Form) (s : ℕ) → WithinForm T m x zero s → ⊥
   none_yet (Until q i j) s e = e
-  none_yet Truth s e = e
-  none_yet Falsity s e = e
-  none_yet (Atom p) s e = e
-  none_yet (Absent p) s e = e
-  none_yet (And i j) s e = e
-  none_yet (Or i j) s e = e
-  none_yet (Next q i) s e = e
-  none_yet (Release q i j) s e = e
+  none_yet _ s e = e
 
   -- a state that meets the set in the fewest rounds
   pub least : (set u k s : ℕ) → SetHolds T m set s → Within T m u k s
       → (j : ℕ) × ((suc j ≤ k) × (((t : ℕ) × (SetHolds T m set t × Within T m u (suc j) t)) × Beyond T m set u j))
   unfolding Near
   least set u zero s h near = absurd (none_yet (form T u) s near)
-  least set u (suc k) s h near = go (Dec-Near set u k) (λ t p n. least set u k t p n)
+  least set u (suc k) s h near = by_cases (Dec-Near set u k) (λ t p n. least set u k t p n)
     where
       Least : ℕ → Type 0
       Least n = (j : ℕ) × ((suc j ≤ n) × (((t : ℕ) × (SetHolds T m set t × Within T m u (suc j) t)) × Beyond T m set u j))
 
-      go : Dec (Near set u k) → ((t : ℕ) → SetHolds T m set t → Within T m u k t → Least k) → Least (suc k)
-      go (yes p) ih = let r : Least k = ih p.0 p.1.0 p.1.1 in let l : suc r.0 ≤ k = r.1.0 in (r.0, (omega arith, r.1.1))
-      go (no f) ih = (k, (le_refl (suc k), ((s, (h, near)), λ t p n. f (t, (p, n)))))
+      by_cases : Dec (Near set u k) → ((t : ℕ) → SetHolds T m set t → Within T m u k t → Least k) → Least (suc k)
+      by_cases (yes p) ih = let r : Least k = ih p.0 p.1.0 p.1.1 in let l : suc r.0 ≤ k = r.1.0 in (r.0, (omega arith, r.1.1))
+      by_cases (no f) ih = (k, (le_refl (suc k), ((s, (h, near)), λ t p n. f (t, (p, n)))))

@@ -1,31 +1,31 @@
 -- The function that takes a step and the relation of the rules say the same.
 use Rattle.std.proofs.Common.{◌≡◌, ℕ, zero, suc, Bool, true, false, cond, not, ◌&&◌, eqb, [], ◌∷◌, Some, None, sym, refl, ap, ◌∙◌, subst}
 use Rattle.std.proofs.lemmas.Bool.{eqb-true, eq-eqb, and_parts, and_from, not-true, not_from_false, false≢true}
-use Rattle.forms.specs.Sets.{member, contained}
+use Rattle.forms.specs.Sets.{member, is_subset}
 use Rattle.forms.specs.declared.form.Quantifier.{Quantifier}
 use Rattle.forms.specs.declared.form.Quantifier.TheVariants.{Exists, Every}
 use Rattle.forms.specs.declared.form.Form.{Form}
-use Rattle.forms.specs.declared.form.Form.TheVariants.{Truth, Falsity, Atom, Absent, And, Or, Next, Until, Release}
+use Rattle.forms.specs.declared.form.Form.TheVariants.{Falsity, Atom, Absent, And, Or, Next, Until, Release}
 use Rattle.forms.specs.Forms.{Table, form}
 use Rattle.tableau.specs.declared.goals.Focus.{Focus}
-use Rattle.tableau.specs.declared.goals.Focus.TheVariants.{Nowhere, At, Ahead}
+use Rattle.tableau.specs.declared.goals.Focus.TheVariants.{At}
 use Rattle.tableau.specs.declared.goals.Goal.{Goal}
 use Rattle.tableau.specs.declared.goals.Step.{Step}
 use Rattle.tableau.specs.declared.goals.Step.TheVariants.{Clash, Absurdity, Split, Choose, Unroll, Refocus, Advance, Repeat}
 use Rattle.forms.specs.declared.refusal.Refusal.{Refusal}
 use Rattle.forms.specs.declared.refusal.Refusal.TheVariants.{NotInGoal, DoesNotFit, DoesNotClose}
 use Rattle.tableau.specs.Steps.{Trail, Outcome, closes, one, two, refused}
-use Rattle.tableau.specs.Nexts.{is_same_quantifier, is_next_of}
+use Rattle.tableau.specs.Nexts.{is_same_quantifier, is_next_of, every_operands}
 use Rattle.tableau.specs.Ancestors.{repeats, unrolled_focus, took_refocus}
-use Rattle.tableau.specs.Rules.{outcome_given, on_clash, on_absurdity, on_split, on_choose, on_unroll, on_refocus, on_advance, on_repeat, outcome}
+use Rattle.tableau.specs.Rules.{outcome_given, on_clash, on_absurdity, on_split, on_choose, on_unroll, on_refocus, on_exists, on_repeat, outcome}
+use Rattle.tableau.specs.Focus.{first_focus, second_focus, focus_after}
 use Rattle.tableau.specs.Statements.{Allows, OutcomeIsExact, RefusalIsExact}
 use Rattle.tableau.specs.Allowed.{In, all_inside, misfit, blame, Repeats, here, higher, Rule, by_clash, by_absurdity, by_split, by_choose, by_until, by_release, by_refocus, by_advance, by_any, by_repeat}
 
 is_same_quantifier_true : (q r : Quantifier) → is_same_quantifier q r ≡ true → q ≡ r
 is_same_quantifier_true Exists Exists e = refl
-is_same_quantifier_true Exists Every e = absurd (false≢true e)
-is_same_quantifier_true Every Exists e = absurd (false≢true e)
 is_same_quantifier_true Every Every e = refl
+is_same_quantifier_true _ _ e = absurd (false≢true e)
 
 is_same_quantifier_refl : (q : Quantifier) → is_same_quantifier q q ≡ true
 is_same_quantifier_refl Exists = refl
@@ -35,14 +35,7 @@ is_next_of_true : (q : Quantifier) (a : ℕ) (x : Form) → is_next_of q a x ≡
 is_next_of_true q a (Next r i) e =
     let p : (is_same_quantifier q r ≡ true) × (eqb i a ≡ true) = and_parts (is_same_quantifier q r) (eqb i a) e in
     ap (λ z. Next z i) (sym (is_same_quantifier_true q r p.0)) ∙ ap (Next q) (eqb-true i a p.1)
-is_next_of_true q a Truth e = absurd (false≢true e)
-is_next_of_true q a Falsity e = absurd (false≢true e)
-is_next_of_true q a (Atom p) e = absurd (false≢true e)
-is_next_of_true q a (Absent p) e = absurd (false≢true e)
-is_next_of_true q a (And i j) e = absurd (false≢true e)
-is_next_of_true q a (Or i j) e = absurd (false≢true e)
-is_next_of_true q a (Until r i j) e = absurd (false≢true e)
-is_next_of_true q a (Release r i j) e = absurd (false≢true e)
+is_next_of_true q a _ e = absurd (false≢true e)
 
 is_next_of-Next : (q : Quantifier) (a : ℕ) → is_next_of q a (Next q a) ≡ true
 is_next_of-Next q a = and_from (is_same_quantifier q q) (eqb a a) (is_same_quantifier_refl q) (eq-eqb a a refl)
@@ -52,7 +45,7 @@ unfolding repeats
 Repeats-repeats u s n [] e = absurd (false≢true e)
 Repeats-repeats u s zero (x ∷ trail) e = absurd (false≢true e)
 Repeats-repeats u s (suc zero) (x ∷ trail) e =
-    let p : (unrolled_focus u x ≡ true) × (contained x.goal.set s ≡ true) = and_parts (unrolled_focus u x) (contained x.goal.set s) e in
+    let p : (unrolled_focus u x ≡ true) × (is_subset x.goal.set s ≡ true) = and_parts (unrolled_focus u x) (is_subset x.goal.set s) e in
     here p.0 p.1
 Repeats-repeats u s (suc (suc n)) (x ∷ trail) e =
     let p : (not (took_refocus x) ≡ true) × (repeats u s (suc n) trail ≡ true) = and_parts (not (took_refocus x)) (repeats u s (suc n) trail) e in
@@ -60,7 +53,7 @@ Repeats-repeats u s (suc (suc n)) (x ∷ trail) e =
 
 repeats-Repeats : (u s n : ℕ) (trail : Trail) → Repeats u s n trail → repeats u s n trail ≡ true
 unfolding repeats
-repeats-Repeats u s n trail (here {x} un co) = and_from (unrolled_focus u x) (contained x.goal.set s) un co
+repeats-Repeats u s n trail (here {x} un co) = and_from (unrolled_focus u x) (is_subset x.goal.set s) un co
 repeats-Repeats u s n trail (higher {n = n'} {x = x} {above = above} nr rest) =
     and_from (not (took_refocus x)) (repeats u s (suc n') above) (not_from_false (took_refocus x) nr) (repeats-Repeats u s (suc n') above rest)
 
@@ -84,97 +77,41 @@ module _ (T : Table) (trail : Trail) (g : Goal) where
   misfits st e = sym (ap (λ b. cond b (misfit st) NotInGoal) e)
 
   IsRuled-Absurdity : (a : ℕ) → In g a → (x : Form) → form T a ≡ x → IsRuled T trail g (Absurdity a) (on_absurdity x)
-  IsRuled-Absurdity a ia Truth e = misfits (Absurdity a) ia
   IsRuled-Absurdity a ia Falsity e = by_absurdity ia e
-  IsRuled-Absurdity a ia (Atom p) e = misfits (Absurdity a) ia
-  IsRuled-Absurdity a ia (Absent p) e = misfits (Absurdity a) ia
-  IsRuled-Absurdity a ia (And i j) e = misfits (Absurdity a) ia
-  IsRuled-Absurdity a ia (Or i j) e = misfits (Absurdity a) ia
-  IsRuled-Absurdity a ia (Next q i) e = misfits (Absurdity a) ia
-  IsRuled-Absurdity a ia (Until q i j) e = misfits (Absurdity a) ia
-  IsRuled-Absurdity a ia (Release q i j) e = misfits (Absurdity a) ia
+  IsRuled-Absurdity a ia _ e = misfits (Absurdity a) ia
 
-  IsRuled-Split : (a : ℕ) → In g a → (x : Form) → form T a ≡ x → IsRuled T trail g (Split a) (on_split g.set g.focus a x)
-  IsRuled-Split a ia Truth e = misfits (Split a) ia
-  IsRuled-Split a ia Falsity e = misfits (Split a) ia
-  IsRuled-Split a ia (Atom p) e = misfits (Split a) ia
-  IsRuled-Split a ia (Absent p) e = misfits (Split a) ia
+  IsRuled-Split : (a : ℕ) → In g a → (x : Form) → form T a ≡ x → IsRuled T trail g (Split a) (on_split g.set a g.focus x)
   IsRuled-Split a ia (And i j) e = by_split ia e
-  IsRuled-Split a ia (Or i j) e = misfits (Split a) ia
-  IsRuled-Split a ia (Next q i) e = misfits (Split a) ia
-  IsRuled-Split a ia (Until q i j) e = misfits (Split a) ia
-  IsRuled-Split a ia (Release q i j) e = misfits (Split a) ia
+  IsRuled-Split a ia _ e = misfits (Split a) ia
 
-  IsRuled-Choose : (a : ℕ) → In g a → (x : Form) → form T a ≡ x → IsRuled T trail g (Choose a) (on_choose g.set g.focus a x)
-  IsRuled-Choose a ia Truth e = misfits (Choose a) ia
-  IsRuled-Choose a ia Falsity e = misfits (Choose a) ia
-  IsRuled-Choose a ia (Atom p) e = misfits (Choose a) ia
-  IsRuled-Choose a ia (Absent p) e = misfits (Choose a) ia
-  IsRuled-Choose a ia (And i j) e = misfits (Choose a) ia
+  IsRuled-Choose : (a : ℕ) → In g a → (x : Form) → form T a ≡ x → IsRuled T trail g (Choose a) (on_choose g.set a g.focus x)
   IsRuled-Choose a ia (Or i j) e = by_choose ia e
-  IsRuled-Choose a ia (Next q i) e = misfits (Choose a) ia
-  IsRuled-Choose a ia (Until q i j) e = misfits (Choose a) ia
-  IsRuled-Choose a ia (Release q i j) e = misfits (Choose a) ia
+  IsRuled-Choose a ia _ e = misfits (Choose a) ia
 
-  IsRuled-Unroll : (a b : ℕ) → In g a → (x : Form) → form T a ≡ x → IsRuled T trail g (Unroll a b) (on_unroll g.set g.focus a b x (form T b))
-  IsRuled-Unroll a b ia Truth e = misfits (Unroll a b) ia
-  IsRuled-Unroll a b ia Falsity e = misfits (Unroll a b) ia
-  IsRuled-Unroll a b ia (Atom p) e = misfits (Unroll a b) ia
-  IsRuled-Unroll a b ia (Absent p) e = misfits (Unroll a b) ia
-  IsRuled-Unroll a b ia (And i j) e = misfits (Unroll a b) ia
-  IsRuled-Unroll a b ia (Or i j) e = misfits (Unroll a b) ia
-  IsRuled-Unroll a b ia (Next q i) e = misfits (Unroll a b) ia
+  IsRuled-Unroll : (a b : ℕ) → In g a → (x : Form) → form T a ≡ x
+      → IsRuled T trail g (Unroll a b) (on_unroll g.set a b (first_focus a g.focus) (second_focus a b g.focus) x (form T b))
   IsRuled-Unroll a b ia (Until q i j) e = IsRuled-outcome_given (Unroll a b) (is_next_of q a (form T b)) DoesNotFit _ (λ _. misfits (Unroll a b) ia) (λ n. by_until ia e (is_next_of_true q a (form T b) n))
   IsRuled-Unroll a b ia (Release q i j) e = IsRuled-outcome_given (Unroll a b) (is_next_of q a (form T b)) DoesNotFit _ (λ _. misfits (Unroll a b) ia) (λ n. by_release ia e (is_next_of_true q a (form T b) n))
+  IsRuled-Unroll a b ia _ e = misfits (Unroll a b) ia
 
-  IsRuled-Refocus : (a : ℕ) → In g a → (x : Form) → form T a ≡ x → IsRuled T trail g (Refocus a) (on_refocus g.set a x)
-  IsRuled-Refocus a ia Truth e = misfits (Refocus a) ia
-  IsRuled-Refocus a ia Falsity e = misfits (Refocus a) ia
-  IsRuled-Refocus a ia (Atom p) e = misfits (Refocus a) ia
-  IsRuled-Refocus a ia (Absent p) e = misfits (Refocus a) ia
-  IsRuled-Refocus a ia (And i j) e = misfits (Refocus a) ia
-  IsRuled-Refocus a ia (Or i j) e = misfits (Refocus a) ia
-  IsRuled-Refocus a ia (Next q i) e = misfits (Refocus a) ia
+  IsRuled-Refocus : (a : ℕ) → In g a → (x : Form) → form T a ≡ x → IsRuled T trail g (Refocus a) (on_refocus g.set (At a) x)
   IsRuled-Refocus a ia (Until q i j) e = by_refocus ia e
-  IsRuled-Refocus a ia (Release q i j) e = misfits (Refocus a) ia
+  IsRuled-Refocus a ia _ e = misfits (Refocus a) ia
 
-  IsRuled-Advance : (a : ℕ) → In g a → (x : Form) → form T a ≡ x → IsRuled T trail g (Advance (Some a)) (on_advance T g a x)
-  IsRuled-Advance a ia Truth e = misfits (Advance (Some a)) ia
-  IsRuled-Advance a ia Falsity e = misfits (Advance (Some a)) ia
-  IsRuled-Advance a ia (Atom p) e = misfits (Advance (Some a)) ia
-  IsRuled-Advance a ia (Absent p) e = misfits (Advance (Some a)) ia
-  IsRuled-Advance a ia (And i j) e = misfits (Advance (Some a)) ia
-  IsRuled-Advance a ia (Or i j) e = misfits (Advance (Some a)) ia
-  IsRuled-Advance a ia (Next q i) e = IsRuled-outcome_given (Advance (Some a)) (is_same_quantifier q Exists) DoesNotFit _ (λ _. misfits (Advance (Some a)) ia) (λ n. by_advance ia (e ∙ ap (λ z. Next z i) (is_same_quantifier_true q Exists n)))
-  IsRuled-Advance a ia (Until q i j) e = misfits (Advance (Some a)) ia
-  IsRuled-Advance a ia (Release q i j) e = misfits (Advance (Some a)) ia
+  IsRuled-Advance : (a : ℕ) → In g a → (x : Form) → form T a ≡ x → IsRuled T trail g (Advance (Some a)) (on_exists (every_operands T 0 g.set) (focus_after T (Some a) g.focus) x)
+  IsRuled-Advance a ia (Next Exists i) e = by_advance ia e
+  IsRuled-Advance a ia _ e = misfits (Advance (Some a)) ia
 
   IsRuled-Repeat : (n : ℕ) (f : Focus) → g.focus ≡ f → IsRuled T trail g (Repeat n) (on_repeat trail g.set n f)
-  IsRuled-Repeat n Nowhere e = refl
   IsRuled-Repeat n (At u) e = IsRuled-outcome_given (Repeat n) (repeats u g.set n trail) DoesNotClose closes (λ _. refl) (λ h. by_repeat e (Repeats-repeats u g.set n trail h))
-  IsRuled-Repeat n (Ahead x u) e = refl
+  IsRuled-Repeat n _ e = refl
 
   both_inside : (a b : ℕ) → In g a → In g b → all_inside g (Clash a b) ≡ true
   both_inside a b ia ib = and_from (member g.set a) (member g.set b) ia ib
 
   IsRuled-Clash : (a b : ℕ) → In g a → In g b → (x y : Form) → form T a ≡ x → form T b ≡ y → IsRuled T trail g (Clash a b) (on_clash x y)
-  IsRuled-Clash a b ia ib Truth y e d = misfits (Clash a b) (both_inside a b ia ib)
-  IsRuled-Clash a b ia ib Falsity y e d = misfits (Clash a b) (both_inside a b ia ib)
-  IsRuled-Clash a b ia ib (Atom p) Truth e d = misfits (Clash a b) (both_inside a b ia ib)
-  IsRuled-Clash a b ia ib (Atom p) Falsity e d = misfits (Clash a b) (both_inside a b ia ib)
-  IsRuled-Clash a b ia ib (Atom p) (Atom r) e d = misfits (Clash a b) (both_inside a b ia ib)
   IsRuled-Clash a b ia ib (Atom p) (Absent r) e d = IsRuled-outcome_given (Clash a b) (eqb p r) DoesNotFit closes (λ _. misfits (Clash a b) (both_inside a b ia ib)) (λ h. by_clash ia ib e (d ∙ ap Absent (sym (eqb-true p r h))))
-  IsRuled-Clash a b ia ib (Atom p) (And i j) e d = misfits (Clash a b) (both_inside a b ia ib)
-  IsRuled-Clash a b ia ib (Atom p) (Or i j) e d = misfits (Clash a b) (both_inside a b ia ib)
-  IsRuled-Clash a b ia ib (Atom p) (Next q i) e d = misfits (Clash a b) (both_inside a b ia ib)
-  IsRuled-Clash a b ia ib (Atom p) (Until q i j) e d = misfits (Clash a b) (both_inside a b ia ib)
-  IsRuled-Clash a b ia ib (Atom p) (Release q i j) e d = misfits (Clash a b) (both_inside a b ia ib)
-  IsRuled-Clash a b ia ib (Absent p) y e d = misfits (Clash a b) (both_inside a b ia ib)
-  IsRuled-Clash a b ia ib (And i j) y e d = misfits (Clash a b) (both_inside a b ia ib)
-  IsRuled-Clash a b ia ib (Or i j) y e d = misfits (Clash a b) (both_inside a b ia ib)
-  IsRuled-Clash a b ia ib (Next q i) y e d = misfits (Clash a b) (both_inside a b ia ib)
-  IsRuled-Clash a b ia ib (Until q i j) y e d = misfits (Clash a b) (both_inside a b ia ib)
-  IsRuled-Clash a b ia ib (Release q i j) y e d = misfits (Clash a b) (both_inside a b ia ib)
+  IsRuled-Clash a b ia ib _ _ e d = misfits (Clash a b) (both_inside a b ia ib)
 
   -- what the function answers is allowed by a rule
   pub IsRuled-outcome : (st : Step) → IsRuled T trail g st (outcome T trail g st)
@@ -194,36 +131,37 @@ module _ (T : Table) (trail : Trail) (g : Goal) where
   passed : {b : Bool} (r : Refusal) {out : Outcome} → b ≡ true → outcome_given b r out ≡ out
   passed r {out} e = ap (λ z. outcome_given z r out) e
 
+  abbrev unrolled : (a b : ℕ) → (x y : Form) → Outcome
+  unrolled a b = on_unroll g.set a b (first_focus a g.focus) (second_focus a b g.focus)
+
   -- and the function answers what a rule allows
   pub outcome-Rule : (st : Step) (out : Outcome) → Rule T trail g st out → outcome T trail g st ≡ out
   outcome-Rule st out (by_clash {a} {b} {p} ia ib ea eb) =
       passed NotInGoal (both_inside a b ia ib) ∙ ap (λ x. on_clash x (form T b)) ea ∙ ap (on_clash (Atom p)) eb ∙ passed DoesNotFit (eq-eqb p p refl)
   outcome-Rule st out (by_absurdity {a} ia ea) = passed NotInGoal ia ∙ ap on_absurdity ea
-  outcome-Rule st out (by_split {a} ia ea) = passed NotInGoal ia ∙ ap (on_split g.set g.focus a) ea
-  outcome-Rule st out (by_choose {a} ia ea) = passed NotInGoal ia ∙ ap (on_choose g.set g.focus a) ea
+  outcome-Rule st out (by_split {a} ia ea) = passed NotInGoal ia ∙ ap (on_split g.set a g.focus) ea
+  outcome-Rule st out (by_choose {a} ia ea) = passed NotInGoal ia ∙ ap (on_choose g.set a g.focus) ea
   outcome-Rule st out (by_until {a} {b} {i} {j} {q} ia ea eb) =
-      passed NotInGoal ia ∙ ap (λ x. on_unroll g.set g.focus a b x (form T b)) ea ∙ ap (on_unroll g.set g.focus a b (Until q i j)) eb ∙ passed DoesNotFit (is_next_of-Next q a)
+      passed NotInGoal ia ∙ ap (λ x. unrolled a b x (form T b)) ea ∙ ap (unrolled a b (Until q i j)) eb ∙ passed DoesNotFit (is_next_of-Next q a)
   outcome-Rule st out (by_release {a} {b} {i} {j} {q} ia ea eb) =
-      passed NotInGoal ia ∙ ap (λ x. on_unroll g.set g.focus a b x (form T b)) ea ∙ ap (on_unroll g.set g.focus a b (Release q i j)) eb ∙ passed DoesNotFit (is_next_of-Next q a)
-  outcome-Rule st out (by_refocus {a} ia ea) = passed NotInGoal ia ∙ ap (on_refocus g.set a) ea
-  outcome-Rule st out (by_advance {a} ia ea) = passed NotInGoal ia ∙ ap (on_advance T g a) ea
+      passed NotInGoal ia ∙ ap (λ x. unrolled a b x (form T b)) ea ∙ ap (unrolled a b (Release q i j)) eb ∙ passed DoesNotFit (is_next_of-Next q a)
+  outcome-Rule st out (by_refocus {a} ia ea) = passed NotInGoal ia ∙ ap (on_refocus g.set (At a)) ea
+  outcome-Rule st out (by_advance {a} ia ea) = passed NotInGoal ia ∙ ap (on_exists (every_operands T 0 g.set) (focus_after T (Some a) g.focus)) ea
   outcome-Rule st out by_any = refl
   outcome-Rule st out (by_repeat {u} {n} e r) = ap (on_repeat trail g.set n) e ∙ passed DoesNotClose (repeats-Repeats u g.set n trail r)
 
 pub outcome_is_exact : OutcomeIsExact
-outcome_is_exact T trail g st out allows = (λ e. go out allows (subst (IsRuled T trail g st) e (IsRuled-outcome T trail g st)), outcome-Rule T trail g st out)
+outcome_is_exact T trail g st out allows = (λ e. by_cases out allows (subst (IsRuled T trail g st) e (IsRuled-outcome T trail g st)), outcome-Rule T trail g st out)
   where
-    go : (o : Outcome) → Allows o → IsRuled T trail g st o → Rule T trail g st o
-    go closes a r = r
-    go (one c) a r = r
-    go (two c d) a r = r
-    go (refused x) a r = absurd a
+    by_cases : (o : Outcome) → Allows o → IsRuled T trail g st o → Rule T trail g st o
+    by_cases (refused x) a r = absurd a
+    by_cases _ a r = r
 
 pub refusal_is_exact : RefusalIsExact
-refusal_is_exact T trail g st none = go (outcome T trail g st) (IsRuled-outcome T trail g st)
+refusal_is_exact T trail g st none = by_cases (outcome T trail g st) (IsRuled-outcome T trail g st)
   where
-    go : (o : Outcome) → IsRuled T trail g st o → o ≡ refused (blame g st)
-    go closes r = absurd (none closes r)
-    go (one c) r = absurd (none (one c) r)
-    go (two c d) r = absurd (none (two c d) r)
-    go (refused x) r = ap refused r
+    by_cases : (o : Outcome) → IsRuled T trail g st o → o ≡ refused (blame g st)
+    by_cases closes r = absurd (none closes r)
+    by_cases (one c) r = absurd (none (one c) r)
+    by_cases (two c d) r = absurd (none (two c d) r)
+    by_cases (refused x) r = ap refused r

@@ -5,8 +5,8 @@ use Rattle.std.proofs.lemmas.Bool.{cases_lt, cases_Bool}
 use Rattle.forms.specs.Sets.{member, set_insert, set_remove}
 use Rattle.forms.specs.declared.form.Quantifier.TheVariants.{Exists, Every}
 use Rattle.forms.specs.declared.form.Form.{Form}
-use Rattle.forms.specs.declared.form.Form.TheVariants.{Truth, Falsity, Atom, Absent, And, Or, Next, Until, Release}
-use Rattle.forms.specs.Forms.{Table, IsWellFormed, Earlier, IsSolid, form}
+use Rattle.forms.specs.declared.form.Form.TheVariants.{Truth, Next}
+use Rattle.forms.specs.Forms.{Table, IsWellFormed, Earlier, IsNotTruth, form}
 use Rattle.tableau.specs.declared.goals.Focus.{Focus}
 use Rattle.tableau.specs.declared.goals.Focus.TheVariants.{Nowhere, At, Ahead}
 use Rattle.tableau.specs.declared.goals.Goal.{Goal}
@@ -25,40 +25,32 @@ use Rattle.tableau.proofs.NextSets.{member-every_operands}
 use Rattle.tableau.proofs.Exact.{IsRuled, IsRuled-outcome, outcome-Rule}
 use Rattle.tableau.proofs.Walking.{IsAccepted}
 
-pub placed : (T : Table) (a : ℕ) {x : Form} → form T a ≡ x → IsSolid x → a < length T
-placed T a {x} e solid = go (cases_lt a (length T))
+pub placed : (T : Table) (a : ℕ) {x : Form} → form T a ≡ x → IsNotTruth x → a < length T
+placed T a {x} e solid = by_cases (cases_lt a (length T))
   where
-    go : (a < length T) ⊎ (length T ≤ a) → a < length T
-    go (inl l) = l
-    go (inr l) = absurd (subst IsSolid (sym e ∙ get_or_past T a Truth l) solid)
+    by_cases : (a < length T) ⊎ (length T ≤ a) → a < length T
+    by_cases (inl l) = l
+    by_cases (inr l) = absurd (subst IsNotTruth (sym e ∙ get_or_past T a Truth l) solid)
 
 pub form_grows : (T more : Table) (a : ℕ) → a < length T → form (T ++ more) a ≡ form T a
 form_grows T more a l = get_or_append_left T more Truth a l
 
-same_form : (T more : Table) (a : ℕ) {x : Form} → form T a ≡ x → IsSolid x → form (T ++ more) a ≡ x
+same_form : (T more : Table) (a : ℕ) {x : Form} → form T a ≡ x → IsNotTruth x → form (T ++ more) a ≡ x
 same_form T more a e solid = form_grows T more a (placed T a e solid) ∙ e
 
 -- where the form is not in the set, nothing joins
 no_join : (x : Form) (r : ℕ) → join_every x false r ≡ r
 no_join (Next Exists i) r = refl
-no_join (Next Every i) r = refl
-no_join Truth r = refl
-no_join Falsity r = refl
-no_join (Atom p) r = refl
-no_join (Absent p) r = refl
-no_join (And i j) r = refl
-no_join (Or i j) r = refl
-no_join (Until q i j) r = refl
-no_join (Release q i j) r = refl
+no_join _ r = refl
 
 no_operands : (L : List Form) (n s : ℕ) → ((f : ℕ) → member s f ≡ true → f < n) → every_operands L n s ≡ 0
 unfolding every_operands
 no_operands [] n s h = refl
-no_operands (x ∷ L) n s h = go (cases_Bool (member s n)) (no_operands L (suc n) s (λ f b. let l : f < n = h f b in omega arith))
+no_operands (x ∷ L) n s h = by_cases (cases_Bool (member s n)) (no_operands L (suc n) s (λ f b. let l : f < n = h f b in omega arith))
   where
-    go : (member s n ≡ true) ⊎ (member s n ≡ false) → every_operands L (suc n) s ≡ 0 → join_every x (member s n) (every_operands L (suc n) s) ≡ 0
-    go (inl b) ih = absurd (let l : n < n = h n b in omega arith)
-    go (inr b) ih = ap₂ (join_every x) b ih ∙ no_join x 0
+    by_cases : (member s n ≡ true) ⊎ (member s n ≡ false) → every_operands L (suc n) s ≡ 0 → join_every x (member s n) (every_operands L (suc n) s) ≡ 0
+    by_cases (inl b) ih = absurd (let l : n < n = h n b in omega arith)
+    by_cases (inr b) ih = ap₂ (join_every x) b ih ∙ no_join x 0
 
 same_operands : (L more : List Form) (n s : ℕ) → ((f : ℕ) → member s f ≡ true → f < n + length L) → every_operands (L ++ more) n s ≡ every_operands L n s
 unfolding every_operands
@@ -101,11 +93,11 @@ module _ (T more : Table) (trail : Trail) (g : Goal) (inside : Inside T g) where
   Rule_grows st out (by_repeat e r) = by_repeat e r
 
 in_insert : (T : Table) (s i : ℕ) → InTable T s → i < length T → InTable T (set_insert s i)
-in_insert T s i h l f b = go (inserted s i f b)
+in_insert T s i h l f b = by_cases (inserted s i f b)
   where
-    go : (member s f ≡ true) ⊎ (f ≡ i) → f < length T
-    go (inl k) = h f k
-    go (inr e) = omega arith
+    by_cases : (member s f ≡ true) ⊎ (f ≡ i) → f < length T
+    by_cases (inl k) = h f k
+    by_cases (inr e) = omega arith
 
 in_remove : (T : Table) (s a : ℕ) → InTable T s → InTable T (set_remove s a)
 in_remove T s a h f b = h f (kept s a f b)
@@ -191,11 +183,11 @@ module _ (T : Table) where
 
   WalkInside-resume : (frames : List Frame) → FramesInside frames → WalkInside (resume frames)
   WalkInside-resume [] h = tt
-  WalkInside-resume (x ∷ frames) h = go x.second h.0 (WalkInside-resume frames h.1)
+  WalkInside-resume (x ∷ frames) h = by_cases x.second h.0 (WalkInside-resume frames h.1)
     where
-      go : (o : Option Goal) → SecondInside o → WalkInside (resume frames) → WalkInside (resume (record { ancestor = x.ancestor; second = o } ∷ frames))
-      go None k ih = ih
-      go (Some g) k ih = (k, (tt, h.1))
+      by_cases : (o : Option Goal) → SecondInside o → WalkInside (resume frames) → WalkInside (resume (record { ancestor = x.ancestor; second = o } ∷ frames))
+      by_cases None k ih = ih
+      by_cases (Some g) k ih = (k, (tt, h.1))
 
   NodeInside-node_if_room : (b : Bool) (walk : Walk) → WalkInside walk → NodeInside (node_if_room b walk)
   NodeInside-node_if_room true walk h = h
@@ -211,7 +203,7 @@ module _ (T : Table) (w : IsWellFormed T) (more : Table) where
   -- an accepted step is accepted in the larger table too, with the same walk after it
   node_grows : (walk later : Walk) (st : Step) → WalkInside T walk → node T walk st ≡ accepted later → (node (T ++ more) walk st ≡ accepted later) × WalkInside T later
   node_grows closed later st h e = absurd (subst IsAccepted (sym e) tt)
-  node_grows (under_way g frames) later st h e = go (outcome T (trail_of frames) g st) (IsRuled-outcome T (trail_of frames) g st) e
+  node_grows (under_way g frames) later st h e = by_cases (outcome T (trail_of frames) g st) (IsRuled-outcome T (trail_of frames) g st) e
     where
       Both : Type 0
       Both = (node (T ++ more) (under_way g frames) st ≡ accepted later) × WalkInside T later
@@ -222,11 +214,11 @@ module _ (T : Table) (w : IsWellFormed T) (more : Table) where
         subst (NodeInside T) k (NodeInside-follow T g st frames out (ChildrenInside_rule T w (trail_of frames) g h.0 st out r) h.1),
       )
 
-      go : (out : Outcome) → IsRuled T (trail_of frames) g st out → follow g st frames out ≡ accepted later → Both
-      go closes r k = by closes r k
-      go (one c) r k = by (one c) r k
-      go (two c d) r k = by (two c d) r k
-      go (refused r') r k = absurd (subst IsAccepted (sym k) tt)
+      by_cases : (out : Outcome) → IsRuled T (trail_of frames) g st out → follow g st frames out ≡ accepted later → Both
+      by_cases closes r k = by closes r k
+      by_cases (one c) r k = by (one c) r k
+      by_cases (two c d) r k = by (two c d) r k
+      by_cases (refused r') r k = absurd (subst IsAccepted (sym k) tt)
 
   grow : (walk : Walk) (sts : List Step) (later : Walk) → WalkInside T walk → Run T walk sts later → Run (T ++ more) walk sts later
   grow walk sts later h done = done

@@ -3,7 +3,7 @@ use Rattle.std.proofs.Common.{◌≡◌, ℕ, true, false, ◌⊎◌, [], ◌∷
 use Rattle.ctl.specs.Model.{Model}
 use Rattle.ctl.specs.Meaning.{Holds}
 use Rattle.forms.specs.declared.form.Form.{Form}
-use Rattle.forms.specs.declared.form.Form.TheVariants.{Truth, Falsity, Atom, Absent, And, Or, Next, Until, Release}
+use Rattle.forms.specs.declared.form.Form.TheVariants.{Next, Until}
 use Rattle.forms.specs.Forms.{Table, form}
 use Rattle.forms.specs.Meaning.{formula, SetHolds}
 use Rattle.tableau.specs.declared.goals.Focus.{Focus}
@@ -21,14 +21,7 @@ module _ (T : Table) (m : Model) where
   -- s is in the k-th iterate of the until form x
   abbrev pub WithinForm : Form → ℕ → ℕ → Type 0
   WithinForm (Until q i j) k s = Reach m q (Has i) (Has j) k s
-  WithinForm Truth k s = ⊥
-  WithinForm Falsity k s = ⊥
-  WithinForm (Atom p) k s = ⊥
-  WithinForm (Absent p) k s = ⊥
-  WithinForm (And i j) k s = ⊥
-  WithinForm (Or i j) k s = ⊥
-  WithinForm (Next q i) k s = ⊥
-  WithinForm (Release q i j) k s = ⊥
+  WithinForm _ k s = ⊥
 
   abbrev pub Within : ℕ → ℕ → ℕ → Type 0
   Within u k s = WithinForm (form T u) k s
@@ -36,14 +29,7 @@ module _ (T : Table) (m : Model) where
   -- the successors of s that x, a next form of u, speaks of are in the k-th iterate of u
   abbrev pub AheadForm : Form → ℕ → ℕ → ℕ → Type 0
   AheadForm (Next q i) u k s = (i ≡ u) × AtSuccessors m q (Within u k) s
-  AheadForm Truth u k s = ⊥
-  AheadForm Falsity u k s = ⊥
-  AheadForm (Atom p) u k s = ⊥
-  AheadForm (Absent p) u k s = ⊥
-  AheadForm (And i j) u k s = ⊥
-  AheadForm (Or i j) u k s = ⊥
-  AheadForm (Until q i j) u k s = ⊥
-  AheadForm (Release q i j) u k s = ⊥
+  AheadForm _ u k s = ⊥
 
   -- no state that meets the set is in the k-th iterate of u
   abbrev pub Beyond : ℕ → ℕ → ℕ → Type 0

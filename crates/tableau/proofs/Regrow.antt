@@ -57,12 +57,12 @@ record Subtree (T : Table) (g : Goal) (frames : List Frame) (sts : List Step) : 
 
 regrow : (T : Table) (n : ℕ) (g : Goal) (frames : List Frame) (sts : List Step) → length sts ≤ n → Run T (under_way g frames) sts closed → Subtree T g frames sts
 unfolding Obeys ClosesEveryBranch steps
-regrow T zero g frames sts bound r = go (begun r)
+regrow T zero g frames sts bound r = by_cases (begun r)
   where
-    go : ((sts ≡ []) × (under_way g frames ≡ closed)) ⊎ Begun T (under_way g frames) sts closed → Subtree T g frames sts
-    go (inl p) = absurd (subst Open p.1 tt)
-    go (inr b) = absurd (let e : length sts ≡ suc (length b.after) = ap length b.split in omega arith)
-regrow T (suc n) g frames sts bound r = go (λ c fs rest l run. regrow T n c fs rest l run) (begun r)
+    by_cases : ((sts ≡ []) × (under_way g frames ≡ closed)) ⊎ Begun T (under_way g frames) sts closed → Subtree T g frames sts
+    by_cases (inl p) = absurd (subst Open p.1 tt)
+    by_cases (inr b) = absurd (let e : length sts ≡ suc (length b.after) = ap length b.split in omega arith)
+regrow T (suc n) g frames sts bound r = by_cases (λ c fs rest l run. regrow T n c fs rest l run) (begun r)
   where
     trail : Trail
     trail = trail_of frames
@@ -127,16 +127,16 @@ regrow T (suc n) g frames sts bound r = go (λ c fs rest l run. regrow T n c fs 
     step_of : Later → (b : Begun T (under_way g frames) sts closed) → Subtree T g frames sts
     step_of again b = by again b (outcome T trail g b.step) (IsRuled-outcome T trail g b.step) b.taken
 
-    go : Later → ((sts ≡ []) × (under_way g frames ≡ closed)) ⊎ Begun T (under_way g frames) sts closed → Subtree T g frames sts
-    go again (inl p) = absurd (subst Open p.1 tt)
-    go again (inr b) = step_of again b
+    by_cases : Later → ((sts ≡ []) × (under_way g frames ≡ closed)) ⊎ Begun T (under_way g frames) sts closed → Subtree T g frames sts
+    by_cases again (inl p) = absurd (subst Open p.1 tt)
+    by_cases again (inr b) = step_of again b
 
 nothing_left : (T : Table) (sts : List Step) → Run T closed sts closed → sts ≡ []
-nothing_left T sts r = go (begun r)
+nothing_left T sts r = by_cases (begun r)
   where
-    go : ((sts ≡ []) × (closed ≡ closed)) ⊎ Begun T closed sts closed → sts ≡ []
-    go (inl p) = p.0
-    go (inr b) = absurd (subst IsAccepted (sym b.taken) tt)
+    by_cases : ((sts ≡ []) × (closed ≡ closed)) ⊎ Begun T closed sts closed → sts ≡ []
+    by_cases (inl p) = p.0
+    by_cases (inr b) = absurd (subst IsAccepted (sym b.taken) tt)
 
 pub closed_is_tree : ClosedIsTree
 closed_is_tree T set sts r =

@@ -1,11 +1,11 @@
 -- What is in a set after an insertion or a removal, and what containment says.
-use Rattle.std.proofs.Common.{◌≡◌, ℕ, zero, suc, ◌+◌, ◌-◌, ◌/◌, ◌%◌, ◌^◌, ◌<◌, ◌≤◌, Bool, true, false, not, ◌&&◌, ◌||◌, eqb, ◌⊎◌, sym, refl, ap, ◌∙◌, subst, inl, inr, pow-suc, arith, pow_mono}
+use Rattle.std.proofs.Common.{◌≡◌, ℕ, zero, suc, ◌+◌, ◌-◌, ◌/◌, ◌%◌, ◌^◌, ◌<◌, Bool, true, false, not, ◌&&◌, ◌||◌, eqb, ◌⊎◌, sym, refl, ap, ◌∙◌, subst, inl, inr, pow-suc, arith}
 use native.Mathlib.Nat.{div_self, div-eq_of_lt, mul-mod_left}
 use lib.Bits.{bit_and, bit_or, bit_xor}
 use Rattle.std.proofs.lemmas.Nat.{and_shr, or_shr, xor_shr, and_mod, or_mod, xor_mod, shl-shr, shr-shr, shr_below, and_le_l, pow-add, pow_pos, pow_below, mod_below}
 use Rattle.std.proofs.lemmas.Bool.{eqb-true, eq-eqb, ne_eqb, cases_order, or_cases, and_parts, both_ways, true≢false, false≢true}
 use Rattle.tableau.specs.Statements.{SetLaws}
-use Rattle.forms.specs.Sets.{member, set_insert, set_remove, contained}
+use Rattle.forms.specs.Sets.{member, set_insert, set_remove, is_subset}
 
 -- the last bit of a number
 bit : ℕ → Bool
@@ -40,17 +40,17 @@ bit_remove a b =
 -- the number whose only form is f
 bit_power : (f g : ℕ) → bit (2 ^ f / 2 ^ g) ≡ eqb f g
 unfolding bit
-bit_power f g = go (cases_order f g)
+bit_power f g = by_cases (cases_order f g)
   where
     halved : (d : ℕ) → f ≡ suc d + g → 2 ^ f / 2 ^ g % 2 ≡ 0
     halved d e =
         ap (λ n. 2 ^ n / 2 ^ g % 2) e ∙ ap (λ n. n / 2 ^ g % 2) (pow-add 2 (suc d) g) ∙ ap (λ n. n % 2) (shl-shr (2 ^ suc d) g) ∙ ap (λ n. n % 2) (pow-suc 2 d)
         ∙ mul-mod_left (2 ^ d) 2
 
-    go : (f ≡ g) ⊎ ((f < g) ⊎ (g < f)) → eqb (2 ^ f / 2 ^ g % 2) 1 ≡ eqb f g
-    go (inl e) = ap (λ n. eqb (n % 2) 1) (ap (λ n. 2 ^ n / 2 ^ g) e ∙ div_self (pow_pos g)) ∙ sym (eq-eqb f g e)
-    go (inr (inl h)) = ap (λ n. eqb (n % 2) 1) (div-eq_of_lt (pow_below f g h)) ∙ sym (ne_eqb f g (λ e. omega arith))
-    go (inr (inr h)) = ap (λ n. eqb n 1) (halved (f - suc g) (omega arith)) ∙ sym (ne_eqb f g (λ e. omega arith))
+    by_cases : (f ≡ g) ⊎ ((f < g) ⊎ (g < f)) → eqb (2 ^ f / 2 ^ g % 2) 1 ≡ eqb f g
+    by_cases (inl e) = ap (λ n. eqb (n % 2) 1) (ap (λ n. 2 ^ n / 2 ^ g) e ∙ div_self (pow_pos g)) ∙ sym (eq-eqb f g e)
+    by_cases (inr (inl h)) = ap (λ n. eqb (n % 2) 1) (div-eq_of_lt (pow_below f g h)) ∙ sym (ne_eqb f g (λ e. omega arith))
+    by_cases (inr (inr h)) = ap (λ n. eqb n 1) (halved (f - suc g) (omega arith)) ∙ sym (ne_eqb f g (λ e. omega arith))
 
 pub member-set_insert : (s f g : ℕ) → member (set_insert s f) g ≡ (member s g || eqb f g)
 unfolding set_insert bit
@@ -63,11 +63,11 @@ member-set_remove s f g =
     ∙ ap (λ b. member s g && not b) (bit_power f g)
 
 pub inserted : (s f g : ℕ) → member (set_insert s f) g ≡ true → (member s g ≡ true) ⊎ (g ≡ f)
-inserted s f g e = go (or_cases (member s g) (eqb f g) (sym (member-set_insert s f g) ∙ e))
+inserted s f g e = by_cases (or_cases (member s g) (eqb f g) (sym (member-set_insert s f g) ∙ e))
   where
-    go : (member s g ≡ true) ⊎ (eqb f g ≡ true) → (member s g ≡ true) ⊎ (g ≡ f)
-    go (inl h) = inl h
-    go (inr h) = inr (sym (eqb-true f g h))
+    by_cases : (member s g ≡ true) ⊎ (eqb f g ≡ true) → (member s g ≡ true) ⊎ (g ≡ f)
+    by_cases (inl h) = inl h
+    by_cases (inr h) = inr (sym (eqb-true f g h))
 
 pub kept : (s f g : ℕ) → member (set_remove s f) g ≡ true → member s g ≡ true
 kept s f g e = (and_parts (member s g) (not (eqb f g)) (sym (member-set_remove s f g) ∙ e)).0
@@ -76,9 +76,9 @@ pub member-bit_and : (r s f : ℕ) → member (bit_and r s) f ≡ (member r f &&
 unfolding bit
 member-bit_and r s f = ap bit (and_shr r s f) ∙ bit-bit_and (r / 2 ^ f) (s / 2 ^ f)
 
-pub member-contained : (r s f : ℕ) → contained r s ≡ true → member r f ≡ true → member s f ≡ true
-unfolding contained bit
-member-contained r s f c e =
+pub member-is_subset : (r s f : ℕ) → is_subset r s ≡ true → member r f ≡ true → member s f ≡ true
+unfolding is_subset bit
+member-is_subset r s f c e =
     (and_parts (member r f) (member s f) (sym (bit-bit_and (r / 2 ^ f) (s / 2 ^ f)) ∙ ap bit (sym (and_shr r s f)) ∙ ap (λ n. member n f) (eqb-true (bit_and r s) r c) ∙ e)).1
 
 pub member-zero : (f : ℕ) → member 0 f ≡ true → ⊥
@@ -108,9 +108,9 @@ same_bits (suc n) a b h k same =
     last : (x y : ℕ) → x < 2 → y < 2 → eqb x 1 ≡ eqb y 1 → x ≡ y
     last = at_bits (λ x y. eqb x 1 ≡ eqb y 1 → x ≡ y) (λ _. refl) (λ e. absurd (false≢true e)) (λ e. absurd (true≢false e)) (λ _. refl)
 
-pub contained-member : (r s : ℕ) → ((f : ℕ) → member r f ≡ true → member s f ≡ true) → contained r s ≡ true
-unfolding contained bit
-contained-member r s h =
+pub is_subset-member : (r s : ℕ) → ((f : ℕ) → member r f ≡ true → member s f ≡ true) → is_subset r s ≡ true
+unfolding is_subset bit
+is_subset-member r s h =
     eq-eqb (bit_and r s) r (same_bits r (bit_and r s) r (omega (arith, and_le_l r s, below_power r)) (below_power r)
     (λ f. ap bit (and_shr r s f) ∙ bit-bit_and (r / 2 ^ f) (s / 2 ^ f) ∙ both (member r f) (member s f) (h f)))
   where
@@ -118,9 +118,5 @@ contained-member r s h =
     both true y k = k refl
     both false y k = refl
 
--- a set of 64 bits has no form above 63
-pub member_above : (s f : ℕ) → s < 2 ^ 64 → 64 ≤ f → member s f ≡ false
-member_above s f small above = ap (λ n. eqb (n % 2) 1) (div-eq_of_lt (omega (arith, pow_mono above)))
-
 pub set_laws : SetLaws
-set_laws = (member-set_insert, member-set_remove, λ r s. ((λ c f b. member-contained r s f c b), contained-member r s))
+set_laws = (member-set_insert, member-set_remove, λ r s. ((λ c f b. member-is_subset r s f c b), is_subset-member r s))

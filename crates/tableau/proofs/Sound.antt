@@ -1,4 +1,5 @@
 -- Each step rule leads from a goal that is met at some state of a model to one that is met at some state of the same model.
+-- One file, since its lemmas are about one table and one model, which a module takes once for all of them.
 use Rattle.std.proofs.Common.{◌≡◌, ℕ, zero, suc, ◌+◌, ◌/◌, ◌%◌, ◌^◌, ◌<◌, ◌≤◌, Bool, true, false, cond, ◌||◌, eqb, ◌⊎◌, [], ◌∷◌, Some, None, Option, sym, refl, ap, ◌∙◌, subst, inl, inr, true≢false, arith}
 use Rattle.std.proofs.lemmas.Bool.{eqb-true, and_parts, false≢true}
 use Rattle.ctl.specs.Model.{Model, IsSerial}
@@ -8,14 +9,14 @@ use Rattle.forms.specs.Sets.{member, set_insert, set_remove}
 use Rattle.forms.specs.declared.form.Quantifier.{Quantifier}
 use Rattle.forms.specs.declared.form.Quantifier.TheVariants.{Exists, Every}
 use Rattle.forms.specs.declared.form.Form.{Form}
-use Rattle.forms.specs.declared.form.Form.TheVariants.{Truth, Falsity, Atom, Absent, And, Or, Next, Until, Release}
+use Rattle.forms.specs.declared.form.Form.TheVariants.{Falsity, Atom, Absent, And, Or, Next, Until, Release}
 use Rattle.forms.specs.Forms.{Table, IsWellFormed, form}
 use Rattle.forms.specs.Meaning.{formula, reading, SetHolds}
 use Rattle.tableau.specs.declared.goals.Focus.{Focus}
 use Rattle.tableau.specs.declared.goals.Focus.TheVariants.{Nowhere, At, Ahead}
 use Rattle.tableau.specs.declared.goals.Goal.{Goal}
 use Rattle.tableau.specs.declared.goals.Step.{Step}
-use Rattle.tableau.specs.declared.goals.Step.TheVariants.{Clash, Absurdity, Split, Choose, Unroll, Refocus, Advance, Repeat}
+use Rattle.tableau.specs.declared.goals.Step.TheVariants.{Split, Choose, Unroll, Refocus, Advance}
 use Rattle.tableau.specs.declared.goals.Ancestor.{Ancestor}
 use Rattle.tableau.specs.Steps.{Trail, Outcome}
 use Rattle.tableau.specs.Nexts.{is_every, every_operands}
@@ -25,7 +26,7 @@ use Rattle.tableau.specs.Rules.{yield₁, yield₂, successor_goal}
 use Rattle.tableau.specs.Allowed.{In, Repeats, here, higher, Rule, by_clash, by_absurdity, by_split, by_choose, by_until, by_release, by_refocus, by_advance, by_any, by_repeat}
 use Rattle.tableau.proofs.Untils.{AtSuccessors, Reach, Holds-exists_until, Holds-every_until}
 use Rattle.tableau.proofs.NextSets.{member-every_operands}
-use Rattle.tableau.proofs.SetLaws.{inserted, kept, member-contained}
+use Rattle.tableau.proofs.SetLaws.{inserted, kept, member-is_subset}
 use Rattle.forms.proofs.Reading.{formula_of}
 use Rattle.tableau.proofs.Live.{Has, Within, WithinForm, AheadForm, Beyond, Fresh, FocusMet, Live, SomeLive}
 use Rattle.tableau.proofs.Decide.{least}
@@ -33,14 +34,8 @@ use Rattle.tableau.proofs.Releases.{Holds-exists_release, Holds-every_release}
 
 -- a goal that unrolled its focus did not move it by step 6
 not_both : (u : ℕ) (g : Goal) (st : Step) → unrolled_focus u (record { goal = g; step = st }) ≡ true → took_refocus (record { goal = g; step = st }) ≡ false
-not_both u g (Clash a b) h = refl
-not_both u g (Absurdity a) h = refl
-not_both u g (Split a) h = refl
-not_both u g (Choose a) h = refl
-not_both u g (Unroll a b) h = refl
 not_both u g (Refocus a) h = absurd (false≢true h)
-not_both u g (Advance a) h = refl
-not_both u g (Repeat n) h = refl
+not_both u g _ h = refl
 
 focused : (a : ℕ) (f : Focus) → is_focused_at a f ≡ true → f ≡ At a
 focused a Nowhere h = absurd (false≢true h)
@@ -60,15 +55,7 @@ lead (Ahead x u) = x
 
 is_every_form : (x : Form) → is_every x ≡ true → (i : ℕ) × (x ≡ Next Every i)
 is_every_form (Next Every i) h = (i, refl)
-is_every_form (Next Exists i) h = absurd (false≢true h)
-is_every_form Truth h = absurd (false≢true h)
-is_every_form Falsity h = absurd (false≢true h)
-is_every_form (Atom p) h = absurd (false≢true h)
-is_every_form (Absent p) h = absurd (false≢true h)
-is_every_form (And i j) h = absurd (false≢true h)
-is_every_form (Or i j) h = absurd (false≢true h)
-is_every_form (Until q i j) h = absurd (false≢true h)
-is_every_form (Release q i j) h = absurd (false≢true h)
+is_every_form _ h = absurd (false≢true h)
 
 module _ (m : Model) where
   next_map : (q : Quantifier) {P Q : ℕ → Type 0} (s : ℕ) → ((t : ℕ) → m.leads s t ≡ true → P t → Q t) → AtSuccessors m q P s → AtSuccessors m q Q s
@@ -84,14 +71,7 @@ module _ (m : Model) where
 module _ (T : Table) (w : IsWellFormed T) (m : Model) (serial : IsSerial m) where
   WithinForm-le : (x : Form) (j k s : ℕ) → j ≤ k → WithinForm T m x j s → WithinForm T m x k s
   WithinForm-le (Until q i o) j k s h r = Reach-le m q (Has T m i) (Has T m o) j k s h r
-  WithinForm-le Truth j k s h r = r
-  WithinForm-le Falsity j k s h r = r
-  WithinForm-le (Atom p) j k s h r = r
-  WithinForm-le (Absent p) j k s h r = r
-  WithinForm-le (And i o) j k s h r = r
-  WithinForm-le (Or i o) j k s h r = r
-  WithinForm-le (Next q i) j k s h r = r
-  WithinForm-le (Release q i o) j k s h r = r
+  WithinForm-le _ j k s h r = r
 
   Fresh-le : (trail : Trail) (u j k : ℕ) → j ≤ k → Fresh T m trail u k → Fresh T m trail u j
   Fresh-le [] u j k h r = tt
@@ -125,34 +105,27 @@ module _ (T : Table) (w : IsWellFormed T) (m : Model) (serial : IsSerial m) wher
   read_release : (q : Quantifier) (a b i j s : ℕ) → form T a ≡ Release q i j → form T b ≡ Next q a → s < m.count → Has T m a s
       → Has T m j s × (Has T m i s ⊎ Has T m b s)
   unfolding Holds
-  read_release Exists a b i j s e n l h = let r : Holds m (formula T j) s × (Holds m (formula T i) s ⊎ Holds m (EX (ER (formula T i) (formula T j))) s) = Holds-exists_release m serial (formula T i) (formula T j) s l (read a s e h) in (r.0, go r.1)
+  read_release Exists a b i j s e n l h = let r : Holds m (formula T j) s × (Holds m (formula T i) s ⊎ Holds m (EX (ER (formula T i) (formula T j))) s) = Holds-exists_release m serial (formula T i) (formula T j) s l (read a s e h) in (r.0, by_cases r.1)
     where
-      go : Holds m (formula T i) s ⊎ Holds m (EX (ER (formula T i) (formula T j))) s → Has T m i s ⊎ Has T m b s
-      go (inl p) = inl p
-      go (inr p) = inr (write_next Exists b a s n (next_map m Exists s (λ t k x. write a t e x) p))
-  read_release Every a b i j s e n l h = let r : Holds m (formula T j) s × (Holds m (formula T i) s ⊎ Holds m (AX (AR (formula T i) (formula T j))) s) = Holds-every_release m serial (formula T i) (formula T j) s l (read a s e h) in (r.0, go r.1)
+      by_cases : Holds m (formula T i) s ⊎ Holds m (EX (ER (formula T i) (formula T j))) s → Has T m i s ⊎ Has T m b s
+      by_cases (inl p) = inl p
+      by_cases (inr p) = inr (write_next Exists b a s n (next_map m Exists s (λ t k x. write a t e x) p))
+  read_release Every a b i j s e n l h = let r : Holds m (formula T j) s × (Holds m (formula T i) s ⊎ Holds m (AX (AR (formula T i) (formula T j))) s) = Holds-every_release m serial (formula T i) (formula T j) s l (read a s e h) in (r.0, by_cases r.1)
     where
-      go : Holds m (formula T i) s ⊎ Holds m (AX (AR (formula T i) (formula T j))) s → Has T m i s ⊎ Has T m b s
-      go (inl p) = inl p
-      go (inr p) = inr (write_next Every b a s n (next_map m Every s (λ t k x. write a t e x) p))
+      by_cases : Holds m (formula T i) s ⊎ Holds m (AX (AR (formula T i) (formula T j))) s → Has T m i s ⊎ Has T m b s
+      by_cases (inl p) = inl p
+      by_cases (inr p) = inr (write_next Every b a s n (next_map m Every s (λ t k x. write a t e x) p))
 
   within_has : (u k s : ℕ) (x : Form) → form T u ≡ x → s < m.count → WithinForm T m x k s → Has T m u s
   within_has u k s (Until q i j) e l r = write_until q u i j k s e l r
-  within_has u k s Truth e l r = absurd r
-  within_has u k s Falsity e l r = absurd r
-  within_has u k s (Atom p) e l r = absurd r
-  within_has u k s (Absent p) e l r = absurd r
-  within_has u k s (And i j) e l r = absurd r
-  within_has u k s (Or i j) e l r = absurd r
-  within_has u k s (Next q i) e l r = absurd r
-  within_has u k s (Release q i j) e l r = absurd r
+  within_has u k s _ e l r = absurd r
 
   SetHolds-set_insert : (set i s : ℕ) → SetHolds T m set s → Has T m i s → SetHolds T m (set_insert set i) s
-  SetHolds-set_insert set i s p h = (p.0, λ f b. go f (inserted set i f b))
+  SetHolds-set_insert set i s p h = (p.0, λ f b. by_cases f (inserted set i f b))
     where
-      go : (f : ℕ) → (member set f ≡ true) ⊎ (f ≡ i) → Has T m f s
-      go f (inl b) = p.1 f b
-      go f (inr e) = subst (λ n. Has T m n s) (sym e) h
+      by_cases : (f : ℕ) → (member set f ≡ true) ⊎ (f ≡ i) → Has T m f s
+      by_cases f (inl b) = p.1 f b
+      by_cases f (inr e) = subst (λ n. Has T m n s) (sym e) h
 
   SetHolds-set_remove : (set a s : ℕ) → SetHolds T m set s → SetHolds T m (set_remove set a) s
   SetHolds-set_remove set a s p = (p.0, λ f b. p.1 f (kept set a f b))
@@ -164,10 +137,10 @@ module _ (T : Table) (w : IsWellFormed T) (m : Model) (serial : IsSerial m) wher
   meets₂ set a i j s p h k = SetHolds-set_insert (set_insert (set_remove set a) i) j s (meets₁ set a i s p h) k
 
   SetHolds-every_operands : (set s t : ℕ) → SetHolds T m set s → m.leads s t ≡ true → SetHolds T m (every_operands T 0 set) t
-  SetHolds-every_operands set s t p l = ((serial.within s t l).1, λ f b. go f (member-every_operands T 0 set f b))
+  SetHolds-every_operands set s t p l = ((serial.within s t l).1, λ f b. by_cases f (member-every_operands T 0 set f b))
     where
-      go : (f : ℕ) → (y : ℕ) × ((member set (0 + y) ≡ true) × (form T y ≡ Next Every f)) → Has T m f t
-      go f r =
+      by_cases : (f : ℕ) → (y : ℕ) × ((member set (0 + y) ≡ true) × (form T y ≡ Next Every f)) → Has T m f t
+      by_cases f r =
           let e : 0 + r.0 ≡ r.0 = omega arith in
           read_next Every r.0 f s r.1.1 (p.1 r.0 (subst (λ y. member set y ≡ true) e r.1.0)) t l
 
@@ -209,14 +182,14 @@ module _ (T : Table) (w : IsWellFormed T) (m : Model) (serial : IsSerial m) wher
     sound_choose : (a i j : ℕ) → In g a → form T a ≡ Or i j → Live T m trail g
         → Live T m (below (Choose a)) (yield₁ g.set a i g.focus) ⊎ Live T m (below (Choose a)) (yield₁ g.set a j g.focus)
     unfolding Holds Quiet
-    sound_choose a i j ia ea (s, (M, F)) = go (read a s ea (M.1 a ia))
+    sound_choose a i j ia ea (s, (M, F)) = by_cases (read a s ea (M.1 a ia))
       where
         focus : FocusMet T m (below (Choose a)) g.focus s
         focus = passes (record { goal = g; step = Choose a }) trail g.focus s (λ u e. false≢true e) F
 
-        go : Has T m i s ⊎ Has T m j s → Live T m (below (Choose a)) (yield₁ g.set a i g.focus) ⊎ Live T m (below (Choose a)) (yield₁ g.set a j g.focus)
-        go (inl h) = inl (s, (meets₁ g.set a i s M h, focus))
-        go (inr h) = inr (s, (meets₁ g.set a j s M h, focus))
+        by_cases : Has T m i s ⊎ Has T m j s → Live T m (below (Choose a)) (yield₁ g.set a i g.focus) ⊎ Live T m (below (Choose a)) (yield₁ g.set a j g.focus)
+        by_cases (inl h) = inl (s, (meets₁ g.set a i s M h, focus))
+        by_cases (inr h) = inr (s, (meets₁ g.set a j s M h, focus))
 
     -- step 5 on a form that is not in focus: the focus passes on at the same state
     Quiet-Unroll : (a b : ℕ) → is_focused_at a g.focus ≡ false → Quiet (record { goal = g; step = Unroll a b })
@@ -249,7 +222,7 @@ module _ (T : Table) (w : IsWellFormed T) (m : Model) (serial : IsSerial m) wher
 
     sound_until : (a b i j : ℕ) (q : Quantifier) → In g a → form T a ≡ Until q i j → form T b ≡ Next q a → Live T m trail g
         → Live T m (below (Unroll a b)) (yield₁ g.set a j (first_focus a g.focus)) ⊎ Live T m (below (Unroll a b)) (yield₂ g.set a i b (second_focus a b g.focus))
-    sound_until a b i j q ia ea eb (s, (M, F)) = go (is_focused_at a g.focus) refl
+    sound_until a b i j q ia ea eb (s, (M, F)) = by_cases (is_focused_at a g.focus) refl
       where
         First : Type 0
         First = Live T m (below (Unroll a b)) (yield₁ g.set a j (first_focus a g.focus))
@@ -270,9 +243,9 @@ module _ (T : Table) (w : IsWellFormed T) (m : Model) (serial : IsSerial m) wher
             let on : AheadForm T m (form T b) a n t = subst (λ x. AheadForm T m x a n t) (sym eb) (refl, next_map m q t (λ v l r. subst (λ x. WithinForm T m x n v) (sym ea) r) h.1) in
             inr (t, (meets₂ g.set a i b t p h.0 b_holds, subst (λ c. FocusMet T m (below (Unroll a b)) (cond c (Ahead b a) g.focus) t) (sym e) (n, (on, fresh))))
 
-        go : (c : Bool) → is_focused_at a g.focus ≡ c → First ⊎ Second
-        go false e = let r : (k : ℕ) × Reach m q (Has T m i) (Has T m j) k s = read_until q a i j s ea M.0 (M.1 a ia) in elsewhere e (round q a b i j r.0 s ea eb r.1)
-        go true e =
+        by_cases : (c : Bool) → is_focused_at a g.focus ≡ c → First ⊎ Second
+        by_cases false e = let r : (k : ℕ) × Reach m q (Has T m i) (Has T m j) k s = read_until q a i j s ea M.0 (M.1 a ia) in elsewhere e (round q a b i j r.0 s ea eb r.1)
+        by_cases true e =
             let r : (k : ℕ) × (Within T m a k s × Fresh T m trail a k) = in_focus a s e F in
             let best : (n : ℕ) × ((suc n ≤ r.0) × (((t : ℕ) × (SetHolds T m g.set t × Within T m a (suc n) t)) × Beyond T m g.set a n)) = least T w m serial g.set a r.0 s M r.1.0 in
             let l : suc best.0 ≤ r.0 = best.1.0 in
@@ -282,7 +255,7 @@ module _ (T : Table) (w : IsWellFormed T) (m : Model) (serial : IsSerial m) wher
 
     sound_release : (a b i j : ℕ) (q : Quantifier) → In g a → form T a ≡ Release q i j → form T b ≡ Next q a → Live T m trail g
         → Live T m (below (Unroll a b)) (yield₂ g.set a i j (first_focus a g.focus)) ⊎ Live T m (below (Unroll a b)) (yield₂ g.set a j b (second_focus a b g.focus))
-    sound_release a b i j q ia ea eb (s, (M, F)) = go (is_focused_at a g.focus) refl
+    sound_release a b i j q ia ea eb (s, (M, F)) = by_cases (is_focused_at a g.focus) refl
       where
         First : Type 0
         First = Live T m (below (Unroll a b)) (yield₂ g.set a i j (first_focus a g.focus))
@@ -294,9 +267,9 @@ module _ (T : Table) (w : IsWellFormed T) (m : Model) (serial : IsSerial m) wher
         elsewhere e (h, inl k) = inl (s, (meets₂ g.set a i j s M k h, first_passes a b s e F))
         elsewhere e (h, inr k) = inr (s, (meets₂ g.set a j b s M h k, second_passes a b s e F))
 
-        go : (c : Bool) → is_focused_at a g.focus ≡ c → First ⊎ Second
-        go false e = elsewhere e (read_release q a b i j s ea eb M.0 (M.1 a ia))
-        go true e = let r : (k : ℕ) × (Within T m a k s × Fresh T m trail a k) = in_focus a s e F in absurd (subst (λ x. WithinForm T m x r.0 s) ea r.1.0)
+        by_cases : (c : Bool) → is_focused_at a g.focus ≡ c → First ⊎ Second
+        by_cases false e = elsewhere e (read_release q a b i j s ea eb M.0 (M.1 a ia))
+        by_cases true e = let r : (k : ℕ) × (Within T m a k s × Fresh T m trail a k) = in_focus a s e F in absurd (subst (λ x. WithinForm T m x r.0 s) ea r.1.0)
 
     sound_refocus : (a i j : ℕ) (q : Quantifier) → In g a → form T a ≡ Until q i j → Live T m trail g → Live T m (below (Refocus a)) (record { set = g.set; focus = At a })
     sound_refocus a i j q ia ea (s, (M, F)) =
@@ -309,11 +282,11 @@ module _ (T : Table) (w : IsWellFormed T) (m : Model) (serial : IsSerial m) wher
     focus_any a Nowhere s t l c F = tt
     focus_any a (At u) s t l c F = tt
     focus_any a (Ahead y u) s t l c F =
-        subst (λ b. FocusMet T m (below (Advance a)) (cond (b || is_every (form T y)) (At u) Nowhere) t) (sym (c y u refl)) (go (is_every (form T y)) refl)
+        subst (λ b. FocusMet T m (below (Advance a)) (cond (b || is_every (form T y)) (At u) Nowhere) t) (sym (c y u refl)) (by_cases (is_every (form T y)) refl)
       where
-        go : (b : Bool) → is_every (form T y) ≡ b → FocusMet T m (below (Advance a)) (cond b (At u) Nowhere) t
-        go false e = tt
-        go true e =
+        by_cases : (b : Bool) → is_every (form T y) ≡ b → FocusMet T m (below (Advance a)) (cond b (At u) Nowhere) t
+        by_cases false e = tt
+        by_cases true e =
             let v : (i : ℕ) × (form T y ≡ Next Every i) = is_every_form (form T y) e in
             let on : AheadForm T m (Next Every v.0) u F.0 s = subst (λ x. AheadForm T m x u F.0 s) v.1 F.1.0 in
             (F.0, (on.1 t l, λ _. ((λ b. absurd (false≢true b)), F.1.1)))
@@ -370,7 +343,7 @@ module _ (T : Table) (w : IsWellFormed T) (m : Model) (serial : IsSerial m) wher
 
     repeat_closed : (u k n s : ℕ) (t : Trail) → Repeats u g.set n t → Fresh T m t u k → SetHolds T m g.set s → Within T m u k s → ⊥
     repeat_closed u k n s t (here {x} un co) fr M near =
-        (fr (not_both u x.goal x.step un)).0 un s (M.0, λ f b. M.1 f (member-contained x.goal.set g.set f co b)) near
+        (fr (not_both u x.goal x.step un)).0 un s (M.0, λ f b. M.1 f (member-is_subset x.goal.set g.set f co b)) near
     repeat_closed u k n s t (higher {n = n'} {above = above} nr rest) fr M near = repeat_closed u k (suc n') s above rest (fr nr).1 M near
 
     sound_repeat : (u n : ℕ) → g.focus ≡ At u → Repeats u g.set n trail → Live T m trail g → ⊥

@@ -43,14 +43,14 @@ module _ (T : Table) (m : Model) where
 
   Alive-resume : (frames : List Frame) → WaitingLive frames → Alive (resume frames)
   Alive-resume [] h = h
-  Alive-resume (x ∷ frames) h = go x.second h (λ k. Alive-resume frames k)
+  Alive-resume (x ∷ frames) h = by_cases x.second h (λ k. Alive-resume frames k)
     where
-      go : (o : Option Goal) → SecondLive o (trail_of (x ∷ frames)) ⊎ WaitingLive frames → (WaitingLive frames → Alive (resume frames))
+      by_cases : (o : Option Goal) → SecondLive o (trail_of (x ∷ frames)) ⊎ WaitingLive frames → (WaitingLive frames → Alive (resume frames))
           → Alive (resume (record { ancestor = x.ancestor; second = o } ∷ frames))
-      go None (inl k) ih = absurd k
-      go None (inr k) ih = ih k
-      go (Some g) (inl k) ih = inl k
-      go (Some g) (inr k) ih = inr (inr k)
+      by_cases None (inl k) ih = absurd k
+      by_cases None (inr k) ih = ih k
+      by_cases (Some g) (inl k) ih = inl k
+      by_cases (Some g) (inr k) ih = inr (inr k)
 
   NodeAlive-node_if_room : (b : Bool) (walk : Walk) → Alive walk → NodeAlive (node_if_room b walk)
   NodeAlive-node_if_room true walk h = h
@@ -63,14 +63,14 @@ module _ (T : Table) (w : IsWellFormed T) (m : Model) (serial : IsSerial m) wher
   NodeAlive-follow g st frames closes r (inr h) = Alive-resume T m frames h
   NodeAlive-follow g st frames (one c) r (inl h) = NodeAlive-node_if_room T m (room_below frames) _ (inl (step_sound T w m serial (trail_of frames) g st (one c) r h))
   NodeAlive-follow g st frames (one c) r (inr h) = NodeAlive-node_if_room T m (room_below frames) _ (inr (inr h))
-  NodeAlive-follow g st frames (two c d) r (inl h) = NodeAlive-node_if_room T m (room_below frames) _ (go (step_sound T w m serial (trail_of frames) g st (two c d) r h))
+  NodeAlive-follow g st frames (two c d) r (inl h) = NodeAlive-node_if_room T m (room_below frames) _ (by_cases (step_sound T w m serial (trail_of frames) g st (two c d) r h))
     where
       below : Trail
       below = record { goal = g; step = st } ∷ trail_of frames
 
-      go : Live T m below c ⊎ Live T m below d → Alive T m (under_way c (record { ancestor = record { goal = g; step = st }; second = Some d } ∷ frames))
-      go (inl k) = inl k
-      go (inr k) = inr (inl k)
+      by_cases : Live T m below c ⊎ Live T m below d → Alive T m (under_way c (record { ancestor = record { goal = g; step = st }; second = Some d } ∷ frames))
+      by_cases (inl k) = inl k
+      by_cases (inr k) = inr (inl k)
   NodeAlive-follow g st frames (two c d) r (inr h) = NodeAlive-node_if_room T m (room_below frames) _ (inr (inr h))
   NodeAlive-follow g st frames (refused e) r h = tt
 
@@ -124,15 +124,15 @@ module _ (T : Table) where
 module _ (T : Table) (m : Model) where
   holds_somewhere : (frames : List Frame) → WaitingLive T m frames → Among (λ g. (t : ℕ) × SetHolds T m g.set t) (seconds frames)
   holds_somewhere [] h = h
-  holds_somewhere (x ∷ frames) h = go x.second h (λ k. holds_somewhere frames k)
+  holds_somewhere (x ∷ frames) h = by_cases x.second h (λ k. holds_somewhere frames k)
     where
-      go : (o : Option Goal) → SecondLive T m o (trail_of (x ∷ frames)) ⊎ WaitingLive T m frames
+      by_cases : (o : Option Goal) → SecondLive T m o (trail_of (x ∷ frames)) ⊎ WaitingLive T m frames
           → (WaitingLive T m frames → Among (λ g. (t : ℕ) × SetHolds T m g.set t) (seconds frames))
           → Among (λ g. (t : ℕ) × SetHolds T m g.set t) (seconds (record { ancestor = x.ancestor; second = o } ∷ frames))
-      go None (inl k) ih = absurd k
-      go None (inr k) ih = ih k
-      go (Some g) (inl k) ih = inl (k.0, k.1.0)
-      go (Some g) (inr k) ih = inr (ih k)
+      by_cases None (inl k) ih = absurd k
+      by_cases None (inr k) ih = ih k
+      by_cases (Some g) (inl k) ih = inl (k.0, k.1.0)
+      by_cases (Some g) (inr k) ih = inr (ih k)
 
   Alive_holds : (walk : Walk) → Alive T m walk → Among (λ g. (t : ℕ) × SetHolds T m g.set t) (waiting_goals walk)
   Alive_holds (under_way g frames) (inl k) = inl (k.0, k.1.0)

@@ -1,6 +1,6 @@
 -- The step rules as a relation: the outcome that a rule allows for a step at a goal below its trail.
-use Rattle.std.specs.Prelude.{◌≡◌, ℕ, suc, Bool, true, false, cond, ◌&&◌, ◌∷◌, Some, None}
-use Rattle.forms.specs.Sets.{member, set_insert, contained}
+use Rattle.std.specs.Prelude.{◌≡◌, ℕ, suc, Bool, true, false, if◌then◌else◌, ◌&&◌, ◌∷◌, Some, None}
+use Rattle.forms.specs.Sets.{member, set_insert, is_subset}
 use Rattle.forms.specs.declared.form.Quantifier.{Quantifier}
 use Rattle.forms.specs.declared.form.Quantifier.TheVariants.{Exists}
 use Rattle.forms.specs.declared.form.Form.TheVariants.{Falsity, Atom, Absent, And, Or, Next, Until, Release}
@@ -24,7 +24,7 @@ In g a = member g.set a ≡ true
 
 -- So many levels up the trail stands an ancestor that unrolled u in focus and whose set is contained in s, and no step 6 was taken between.
 pub data Repeats (u s : ℕ) : ℕ → Trail → Type 0 where
-  here : {x : Ancestor} {above : Trail} → unrolled_focus u x ≡ true → contained x.goal.set s ≡ true → Repeats u s 1 (x ∷ above)
+  here : {x : Ancestor} {above : Trail} → unrolled_focus u x ≡ true → is_subset x.goal.set s ≡ true → Repeats u s 1 (x ∷ above)
   higher : {n : ℕ} {x : Ancestor} {above : Trail} → took_refocus x ≡ false → Repeats u s (suc n) above → Repeats u s (suc (suc n)) (x ∷ above)
 
 -- The steps that a goal may take, by their numbers, with what each comes to.
@@ -66,15 +66,9 @@ all_inside g (Repeat n) = true
 
 -- the refusal of a step whose forms are in the goal
 abbrev pub misfit : Step → Refusal
-misfit (Clash a b) = DoesNotFit
-misfit (Absurdity a) = DoesNotFit
-misfit (Split a) = DoesNotFit
-misfit (Choose a) = DoesNotFit
-misfit (Unroll a b) = DoesNotFit
-misfit (Refocus a) = DoesNotFit
-misfit (Advance a) = DoesNotFit
 misfit (Repeat n) = DoesNotClose
+misfit _ = DoesNotFit
 
 -- why a step that no rule allows is refused
 abbrev pub blame : Goal → Step → Refusal
-blame g step = cond (all_inside g step) (misfit step) NotInGoal
+blame g step = if all_inside g step then misfit step else NotInGoal

@@ -1,7 +1,7 @@
 -- What is proved of the rules and the walk.
-use Rattle.std.specs.Prelude.{◌≡◌, ℕ, ◌<◌, ◌≤◌, true, not, ◌&&◌, ◌||◌, ◌⊎◌, ◌↔◌, List, [], ◌∷◌, ◌++◌, length, Some, ◌==◌}
+use Rattle.std.specs.Prelude.{◌≡◌, ℕ, ◌<◌, ◌≤◌, true, not, ◌&&◌, ◌||◌, ◌⊎◌, ◌↔◌, List, [], ◌∷◌, ◌++◌, length, Some, ◌==◌, ⊤}
 use Rattle.ctl.specs.Model.{Model, IsSerial}
-use Rattle.forms.specs.Sets.{member, set_insert, set_remove, contained}
+use Rattle.forms.specs.Sets.{member, set_insert, set_remove, is_subset}
 use Rattle.forms.specs.declared.form.Quantifier.TheVariants.{Every}
 use Rattle.forms.specs.declared.form.Form.TheVariants.{Next}
 use Rattle.forms.specs.Forms.{Table, form, IsWellFormed}
@@ -9,7 +9,7 @@ use Rattle.forms.specs.Meaning.{SetHolds}
 use Rattle.tableau.specs.declared.goals.Goal.{Goal}
 use Rattle.tableau.specs.declared.goals.Focus.TheVariants.{Nowhere}
 use Rattle.tableau.specs.declared.goals.Step.{Step}
-use Rattle.tableau.specs.Steps.{Trail, Outcome, closes, one, two, refused, step_of, numbers_of}
+use Rattle.tableau.specs.Steps.{Trail, Outcome, refused, step_of, numbers_of}
 use Rattle.tableau.specs.Nexts.{every_operands}
 use Rattle.tableau.specs.Rules.{outcome}
 use Rattle.tableau.specs.Allowed.{Rule, blame}
@@ -21,19 +21,17 @@ abbrev pub SetLaws : Type 0
 SetLaws =
     ((s f g : ℕ) → member (set_insert s f) g ≡ (member s g || f == g))
     × ((s f g : ℕ) → member (set_remove s f) g ≡ (member s g && not (f == g)))
-    × ((r s : ℕ) → (contained r s ≡ true) ↔ ((f : ℕ) → member r f ≡ true → member s f ≡ true))
+    × ((r s : ℕ) → (is_subset r s ≡ true) ↔ ((f : ℕ) → member r f ≡ true → member s f ≡ true))
 
 -- The set after step 7, the form that the step names apart, has just the operands of the forms of all successors in the goal.
-abbrev pub EveryOperands : Type 0
-EveryOperands =
+abbrev pub EveryOperandsAreExact : Type 0
+EveryOperandsAreExact =
     (T : Table) (s i : ℕ) → (member (every_operands T 0 s) i ≡ true) ↔ ((f : ℕ) × (member s f ≡ true) × (form T f ≡ Next Every i))
 
 -- an outcome that is no refusal
 abbrev pub Allows : Outcome → Type 0
-Allows closes = Unit {0}
-Allows (one c) = Unit {0}
-Allows (two c d) = Unit {0}
 Allows (refused r) = ⊥
+Allows _ = ⊤
 
 -- A step has just the outcome that a rule allows.
 abbrev pub OutcomeIsExact : Type 0
@@ -87,7 +85,7 @@ InBytes step =
     ((numbers_of step).0 < 256) × ((numbers_of step).1 < 256) × ((numbers_of step).2 < 256) × (step_of (numbers_of step).0 (numbers_of step).1 (numbers_of step).2 ≡ Some step)
 
 abbrev pub AllInBytes : List Step → Type 0
-AllInBytes [] = Unit {0}
+AllInBytes [] = ⊤
 AllInBytes (step ∷ sts) = InBytes step × AllInBytes sts
 
 -- Over a table of at most 64 forms, each step of a tree that obeys the rules can be written in three bytes.

@@ -1,5 +1,5 @@
 -- The steps of the focus tableau by their numbers, and what a step can come to.
-use Rattle.std.specs.Prelude.{ℕ, cond, List, [], ◌∷◌, Some, None, Option, ◌==◌, slice_index_or}
+use Rattle.std.specs.Prelude.{ℕ, if◌then◌else◌, List, [], ◌∷◌, Some, None, Option, ◌==◌, slice_index_or}
 use Rattle.forms.specs.declared.refusal.Refusal.{Refusal}
 use Rattle.tableau.specs.declared.goals.Goal.{Goal}
 use Rattle.tableau.specs.declared.goals.Step.{Step}
@@ -28,7 +28,7 @@ step_of number a b =
     ∷ Some (Choose a)
     ∷ Some (Unroll a b)
     ∷ Some (Refocus a)
-    ∷ Some (Advance (cond (a == 255) None (Some a)))
+    ∷ Some (Advance (if a == 255 then None else Some a))
     ∷ Some (Repeat a)
     ∷ [])
     number

@@ -1,5 +1,5 @@
 -- Trees of goals, what it is for one to obey the rules and close every branch, and its steps in order.
-use Rattle.std.specs.Prelude.{◌+◌, ◌≤◌, List, [], ◌∷◌, ◌++◌, length}
+use Rattle.std.specs.Prelude.{◌+◌, ◌≤◌, List, [], ◌∷◌, ◌++◌, length, ⊤}
 use Rattle.forms.specs.Forms.{Table}
 use Rattle.tableau.specs.declared.goals.Goal.{Goal}
 use Rattle.tableau.specs.declared.goals.Step.{Step}
@@ -23,7 +23,7 @@ root (fork g st t u) = g
 
 -- every step is allowed by a rule, the goals under it are those that it yields, and no path is too long
 unfoldable pub Obeys : Table → Trail → Tree → Type 0
-Obeys T trail (bare g) = Unit {0}
+Obeys T trail (bare g) = ⊤
 Obeys T trail (leaf g st) = Rule T trail g st closes
 Obeys T trail (stem g st t) = Rule T trail g st (one (root t)) × (length trail + 2 ≤ longest_path) × Obeys T (record { goal = g; step = st } ∷ trail) t
 Obeys T trail (fork g st t u) =
@@ -32,7 +32,7 @@ Obeys T trail (fork g st t u) =
 -- no goal lacks a step
 unfoldable pub ClosesEveryBranch : Tree → Type 0
 ClosesEveryBranch (bare g) = ⊥
-ClosesEveryBranch (leaf g st) = Unit {0}
+ClosesEveryBranch (leaf g st) = ⊤
 ClosesEveryBranch (stem g st t) = ClosesEveryBranch t
 ClosesEveryBranch (fork g st t u) = ClosesEveryBranch t × ClosesEveryBranch u
 

@@ -1,5 +1,6 @@
 -- The walk through a tree of goals: the present goal, and above it the goals that took a step, each with its second child while that waits.
-use Rattle.std.specs.Prelude.{◌≡◌, ℕ, ◌+◌, Bool, true, false, List, [], ◌∷◌, length, Some, None, nat_le}
+use Rattle.std.specs.Prelude.{◌≡◌, ℕ, ◌+◌, Bool, true, false, List, [], ◌∷◌, length, Some, None, map, nat_le}
+use Rattle.std.specs.List.{filter_map}
 use Rattle.forms.specs.Forms.{Table}
 use Rattle.tableau.specs.declared.goals.Focus.TheVariants.{Nowhere}
 use Rattle.tableau.specs.declared.goals.Goal.{Goal}
@@ -17,8 +18,7 @@ pub data Walk : Type 0 where
 
 -- the trail that the frames keep
 abbrev pub trail_of : List Frame → Trail
-trail_of [] = []
-trail_of (x ∷ frames) = x.ancestor ∷ trail_of frames
+trail_of = map (λ frame. frame.ancestor)
 
 -- a walk starts at a set with no focus
 abbrev pub start : ℕ → Walk
@@ -26,8 +26,7 @@ start set = under_way (record { set = set; focus = Nowhere }) []
 
 -- the second children that wait
 abbrev pub seconds : List Frame → List Goal
-seconds [] = []
-seconds (x ∷ frames) = elim x.second [ None ↦ seconds frames | Some g ↦ g ∷ seconds frames ]
+seconds = filter_map (λ frame. frame.second)
 
 -- the goals that wait, in the order in which they are treated
 abbrev pub waiting_goals : Walk → List Goal

@@ -3,16 +3,23 @@
 
 pub mod goals;
 
-ghost use Rattle.tableau.specs.Statements.{SetLaws, EveryOperands, OutcomeIsExact, RefusalIsExact, WalkKeeps, ClosedRefutes, TreeIsTaken, TreeIsInBytes, ClosedIsTree, RunGrows};
+ghost use Rattle.tableau.specs.Statements.{SetLaws, EveryOperandsAreExact, OutcomeIsExact, RefusalIsExact, WalkKeeps, ClosedRefutes, TreeIsTaken, TreeIsInBytes, ClosedIsTree, RunGrows};
 ghost use Rattle.tableau.specs.Worked.{SetIsRefuted, NeedsFocus};
 
 pub use goals::{Ancestor, Focus, Frame, Goal, Step};
 
-// What is proved of the rules and of every walk by them. It does nothing.
+/// What is proved of the step rules and every walk by them, such as that a closed walk refutes its set. It does nothing.
 pub fn rules_are_sound()
-    ensures sets { SetLaws × EveryOperands }
-    ensures exact { OutcomeIsExact × RefusalIsExact }
-    ensures sound { WalkKeeps × ClosedRefutes × RunGrows }
-    ensures complete { TreeIsTaken × TreeIsInBytes × ClosedIsTree }
-    ensures worked { SetIsRefuted × NeedsFocus }
+    ensures sets { SetLaws }
+    ensures operands { EveryOperandsAreExact }
+    ensures outcome { OutcomeIsExact }
+    ensures refusal { RefusalIsExact }
+    ensures keeps { WalkKeeps }
+    ensures refutes { ClosedRefutes }
+    ensures grows { RunGrows }
+    ensures taken { TreeIsTaken }
+    ensures in_bytes { TreeIsInBytes }
+    ensures is_tree { ClosedIsTree }
+    ensures refuted { SetIsRefuted }
+    ensures needs_focus { NeedsFocus }
 {}

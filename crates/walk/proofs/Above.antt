@@ -1,12 +1,12 @@
 -- The trail above a goal, from the last frame of its path up, and what step 8 finds there.
-use Rattle.std.proofs.Common.{◌≡◌, ℕ, zero, suc, ◌-◌, ◌<◌, ◌≤◌, false, not, ◌&&◌, List, [], ◌∷◌, ◌++◌, reverse, length, get_or, take, None, sym, refl, ap, ◌∙◌, arith}
+use Rattle.std.proofs.Common.{◌≡◌, ℕ, zero, suc, ◌-◌, ◌<◌, ◌≤◌, true, false, not, ◌&&◌, List, [], ◌∷◌, ◌++◌, reverse, length, get_or, take, None, sym, refl, ap, ◌∙◌, arith}
 use lib.Seq.{split_at}
 use Rattle.std.proofs.lemmas.List.{drop_all, reverse-append}
 use Rattle.tableau.specs.declared.goals.Focus.TheVariants.{Nowhere}
 use Rattle.tableau.specs.declared.goals.Step.TheVariants.{Clash}
 use Rattle.tableau.specs.declared.goals.Ancestor.{Ancestor}
 use Rattle.tableau.specs.declared.goals.Frame.{Frame}
-use Rattle.forms.specs.Sets.{contained}
+use Rattle.forms.specs.Sets.{is_subset}
 use Rattle.tableau.specs.Steps.{Trail}
 use Rattle.tableau.specs.Ancestors.{took_refocus, unrolled_focus, repeats}
 use Rattle.tableau.specs.Walk.{trail_of}
@@ -33,7 +33,7 @@ module _ (u s : ℕ) (x : Ancestor) (trail : Trail) where
   at_none zero e = refl
   at_none (suc n) e = absurd (omega arith)
 
-  repeats_at_parent : (n : ℕ) → n ≡ 1 → repeats u s n (x ∷ trail) ≡ (unrolled_focus u x && contained x.goal.set s)
+  repeats_at_parent : (n : ℕ) → n ≡ 1 → repeats u s n (x ∷ trail) ≡ (unrolled_focus u x && is_subset x.goal.set s)
   unfolding repeats
   repeats_at_parent n e = ap (λ k. repeats u s k (x ∷ trail)) e
 
@@ -61,8 +61,11 @@ module _ (path : List Frame) (u s n : ℕ) where
   pub no_level : 0 < length path → n ≡ 0 → false ≡ repeats u s n (trail_above path)
   no_level h e = sym (from_last h ∙ at_none u s nearest (trail_above above) n e)
 
-  pub parent_level : 0 < length path → n ≡ 1 → (unrolled_focus u nearest && contained nearest.goal.set s) ≡ repeats u s n (trail_above path)
+  pub parent_level : 0 < length path → n ≡ 1 → (unrolled_focus u nearest && is_subset nearest.goal.set s) ≡ repeats u s n (trail_above path)
   parent_level h e = sym (from_last h ∙ repeats_at_parent u s nearest (trail_above above) n e)
 
-  pub higher_level : 0 < length path → 2 ≤ n → (not (took_refocus nearest) && repeats u s (n - 1) (trail_above above)) ≡ repeats u s n (trail_above path)
-  higher_level h k = sym (from_last h ∙ repeats_at_higher u s nearest (trail_above above) n k)
+  pub across_refocus : 0 < length path → 2 ≤ n → true ≡ took_refocus nearest → false ≡ repeats u s n (trail_above path)
+  across_refocus h k e = ap (λ b. not b && repeats u s (n - 1) (trail_above above)) e ∙ sym (from_last h ∙ repeats_at_higher u s nearest (trail_above above) n k)
+
+  pub next_level : 0 < length path → 2 ≤ n → false ≡ took_refocus nearest → repeats u s (n - 1) (trail_above above) ≡ repeats u s n (trail_above path)
+  next_level h k e = ap (λ b. not b && repeats u s (n - 1) (trail_above above)) e ∙ sym (from_last h ∙ repeats_at_higher u s nearest (trail_above above) n k)

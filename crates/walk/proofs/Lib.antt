@@ -1,5 +1,3 @@
 mod Above
-mod Clashes
 mod Operands
 mod Stack
-mod Treated

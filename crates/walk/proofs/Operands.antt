@@ -1,9 +1,15 @@
 -- The operands that join at a table's form, from its last form back.
-use Rattle.std.proofs.Common.{◌≡◌, ℕ, suc, ◌-◌, ◌<◌, ◌≤◌, length, drop, ap, ◌∙◌, arith, drop-cons}
+use Rattle.std.proofs.Common.{◌≡◌, ℕ, suc, ◌-◌, ◌<◌, ◌≤◌, length, drop, sym, ap, ◌∙◌, arith, drop-cons}
+use Rattle.std.proofs.lemmas.List.{drop_all}
 use Rattle.forms.specs.declared.form.Form.TheVariants.{Truth}
 use Rattle.forms.specs.Forms.{Table, form}
 use Rattle.forms.specs.Sets.{member}
 use Rattle.tableau.specs.Nexts.{join_every, every_operands}
+
+-- past the last form nothing joins
+pub past_the_last_form : (T : Table) (n s : ℕ) → length T ≤ n → 0 ≡ every_operands (drop n T) n s
+unfolding every_operands
+past_the_last_form T n s h = sym (ap (λ L. every_operands L n s) (drop_all n T h))
 
 every_operands-drop : (T : Table) (f s : ℕ) → f < length T → every_operands (drop f T) f s ≡ join_every (form T f) (member s f) (every_operands (drop (suc f) T) (suc f) s)
 unfolding every_operands

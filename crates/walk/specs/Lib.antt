@@ -1,4 +1,3 @@
 pub mod Answers
 pub mod Path
 pub mod Progress
-pub mod View

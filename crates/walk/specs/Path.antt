@@ -1,5 +1,5 @@
 -- A path that is kept with the root first: the trail above its goal, and what a step there comes to.
-use Rattle.std.specs.Prelude.{◌≡◌, List, reverse, Some, None, Ok, Err, Option, Result}
+use Rattle.std.specs.Prelude.{◌≡◌, List, reverse, Some, None, Ok, Err, Option, Result, ⊤}
 use Rattle.forms.specs.declared.refusal.Refusal.{Refusal}
 use Rattle.tableau.specs.declared.goals.Goal.{Goal}
 use Rattle.tableau.specs.declared.goals.Frame.{Frame}
@@ -21,5 +21,5 @@ node_of (Err r) path = denied r
 
 -- a refusal leaves the path
 abbrev pub KeptIfRefused : Result (Option Goal) Refusal → (before after : List Frame) → Type 0
-KeptIfRefused (Ok goal) before after = Unit {0}
+KeptIfRefused (Ok goal) before after = ⊤
 KeptIfRefused (Err r) before after = after ≡ before

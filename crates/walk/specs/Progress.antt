@@ -5,8 +5,8 @@ use Rattle.forms.specs.declared.refusal.Refusal.TheVariants.{NoWalk, WalkPresent
 use Rattle.forms.specs.Forms.{Table}
 use Rattle.tableau.specs.declared.goals.Goal.{Goal}
 use Rattle.tableau.specs.declared.goals.Frame.{Frame}
-use Rattle.walk.specs.declared.phase.Phase.{Phase}
-use Rattle.walk.specs.declared.phase.Phase.TheVariants.{Absent, UnderWay, Closed}
+use Rattle.walk.specs.declared.walk.Phase.{Phase}
+use Rattle.walk.specs.declared.walk.Phase.TheVariants.{Absent, UnderWay, Closed}
 use Rattle.tableau.specs.Walk.{Walk, under_way, closed, start, waiting_goals, Node, accepted, denied, node_bytes}
 
 -- no walk, or one from the root set
@@ -20,14 +20,20 @@ progress_of Absent path = absent
 progress_of (UnderWay root goal) path = present root (under_way goal (reverse path))
 progress_of (Closed root) path = present root closed
 
-abbrev pub progress_after : ℕ → Node → Result Progress Refusal
-progress_after root (accepted walk) = Ok (present root walk)
-progress_after root (denied r) = Err r
+-- what a walk is, without its path
+abbrev pub phase_of : Progress → Phase
+phase_of absent = Absent
+phase_of (present root (under_way goal path)) = UnderWay root goal
+phase_of (present root closed) = Closed root
+
+abbrev pub progress_result : ℕ → Node → Result Progress Refusal
+progress_result root (accepted walk) = Ok (present root walk)
+progress_result root (denied r) = Err r
 
 -- a step by its numbers
 abbrev pub step_result : Table → Progress → (number a b : ℕ) → Result Progress Refusal
 step_result T absent number a b = Err NoWalk
-step_result T (present root walk) number a b = progress_after root (node_bytes T walk number a b)
+step_result T (present root walk) number a b = progress_result root (node_bytes T walk number a b)
 
 -- a walk starts where there is none
 abbrev pub open_result : Progress → ℕ → Result Progress Refusal

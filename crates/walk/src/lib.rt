@@ -1,17 +1,10 @@
-// The walk through a tree of goals: the step function, and the calls of a walk.
+// The walk through a tree of goals: the step rules, the path, and the calls of a walk.
 #![tactic(auto)]
 
-mod advance;
-mod calls;
-mod decode;
-mod focus;
-mod frames;
-mod outcome;
-pub mod phase;
-mod repeat;
-mod sets;
-mod steps;
-mod treat;
+mod goal_forms;
+mod path;
+mod rules;
+mod successor;
 pub mod walk;
 
-pub use walk::Walk;
+pub use walk::{Phase, Walk};

@@ -1,6 +1,6 @@
 -- The calls that bring the table and the refutation, computed.
 use Rattle.std.proofs.Common.{refl}
-use Rattle.forms.specs.Sets.{set_insert, set_remove, contained}
+use Rattle.forms.specs.Sets.{set_insert, set_remove, is_subset}
 use Rattle.tableau.specs.Nexts.{every_operands}
 use Rattle.tableau.specs.Ancestors.{repeats}
 use Rattle.worked.specs.Examples.{TableIsFilled, Set48IsRefuted}
@@ -9,5 +9,5 @@ pub table_is_filled : TableIsFilled
 table_is_filled = refl
 
 pub set_48_is_refuted : Set48IsRefuted
-unfolding repeats every_operands set_insert set_remove contained
+unfolding repeats every_operands set_insert set_remove is_subset
 set_48_is_refuted = (refl, refl, refl, refl)

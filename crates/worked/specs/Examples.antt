@@ -5,14 +5,14 @@ use Rattle.forms.specs.declared.form.Form.TheVariants.{Truth, Falsity, Atom, Abs
 use Rattle.forms.specs.declared.form.Quantifier.TheVariants.{Exists, Every}
 use Rattle.forms.specs.declared.refusal.Refusal.TheVariants.{OperandNotEarlier, DoesNotClose, RowOffset}
 use Rattle.forms.specs.Forms.{Table}
-use Rattle.forms.specs.Refusals.{number_of}
+use Rattle.forms.specs.Refusals.{rejected_at, number_of}
 use Rattle.forms.specs.Sets.{member}
 use Rattle.machine.specs.declared.row.Row.{Row}
-use Rattle.machine.specs.Interface.{IsSound}
+use Rattle.machine.specs.Interface.{IsSoundMachine}
 use Rattle.machine.specs.Timer.{timer}
 use Rattle.machine.specs.Sheet.{sheet}
 use Rattle.machine.specs.Rows.{decoded_row, row_leads}
-use Rattle.machine.specs.Faults.{at_row, row_fault, sheet_fault}
+use Rattle.machine.specs.Faults.{row_fault, sheet_fault}
 use Rattle.label.specs.Show.{mark, rounds_of}
 use Rattle.protocol.specs.declared.line.Standing.TheVariants.{Impossible, Possible}
 use Rattle.protocol.specs.State.{State}
@@ -90,7 +90,7 @@ Set48IsRefuted =
 
 -- an offset of -1 in row 0 leads outside: it is 255, 255 in two's complement, low byte first
 abbrev pub BeforeRow0 : Type 0
-BeforeRow0 = (sheet_fault (1 ∷ 0 ∷ row 0 1 (255 ∷ 255 ∷ [])) ≡ Some (at_row 0 RowOffset)) × (number_of RowOffset ≡ 12)
+BeforeRow0 = (sheet_fault (1 ∷ 0 ∷ row 0 1 (255 ∷ 255 ∷ [])) ≡ Some (rejected_at RowOffset 0)) × (number_of RowOffset ≡ 12)
 
 -- a row with an offset of -1,023, which is 1, 252
 abbrev pub far_back_row : Row
@@ -107,5 +107,5 @@ Operand5InForm5 = (answer (reached_state (take 5 forming_calls)) (form 4 0 5) �
 -- on every run, an accepted show of set 0 leaves it standing as possible: it holds at every state
 abbrev pub Set0IsEntered : Type 0
 Set0IsEntered =
-    (calls : List Call) → AllLawful calls → (t : ℕ) (m : Model) (marks scratch : ℕ) → IsSound m
+    (calls : List Call) → AllLawful calls → (t : ℕ) (m : Model) (marks scratch : ℕ) → IsSoundMachine m
     → IsAccepted (answer (reached_state calls) (show 0 t m marks scratch)) → StandsAs (state_after (reached_state calls) (show 0 t m marks scratch)) 0 Possible

@@ -10,9 +10,16 @@ use Rattle.tableau.proofs.Worked.{set_is_refuted, needs_focus}
 
 pub returns : goal.returns
 returns c = record {
-  sets = (set_laws, every_operands_lem);
-  exact = (outcome_is_exact, refusal_is_exact);
-  sound = (walk_keeps, closed_walk_refutes, run_grows);
-  complete = (tree_taken, tree_is_in_bytes, closed_is_tree);
-  worked = (set_is_refuted, needs_focus);
+  sets = set_laws;
+  operands = every_operands_lem;
+  outcome = outcome_is_exact;
+  refusal = refusal_is_exact;
+  keeps = walk_keeps;
+  refutes = closed_walk_refutes;
+  grows = run_grows;
+  taken = tree_taken;
+  in_bytes = tree_is_in_bytes;
+  is_tree = closed_is_tree;
+  refuted = set_is_refuted;
+  needs_focus = needs_focus;
 }

@@ -6,9 +6,12 @@ use Rattle.worked.proofs.worked_examples.Goals as goal
 
 pub returns : goal.returns
 returns c = record {
-  table = (table_is_filled, operand_5_in_form_5);
-  labelling = (two_rows_answer, timer_of_three);
+  table = table_is_filled;
+  operand = operand_5_in_form_5;
+  two_rows = two_rows_answer;
+  timer = timer_of_three;
   refutation = set_48_is_refuted;
-  offsets = (before_row_0, row_1023_reaches_0);
+  before = before_row_0;
+  far_back = row_1023_reaches_0;
   nothing = set_0_is_entered;
 }

@@ -1,4 +1,4 @@
-use Rattle.walk.proofs.repeat.+repeats.Given as goal
+use Rattle.walk.proofs.path.+repeats.Given as goal
 
 abbrev pub decreases-repeats : goal.decreases-repeats
 decreases-repeats l = l.levels
