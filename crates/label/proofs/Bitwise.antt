@@ -1,9 +1,13 @@
 -- A number with one bit changed.
-use Rattle.std.proofs.Common.{◌≡◌, ℕ, ◌+◌, ◌-◌, ◌*◌, ◌/◌, ◌%◌, ◌^◌, ◌<◌, ◌≤◌, Bool, true, false, cond, eqb, sym, refl, ap, ◌∙◌, ap₂, ⊎_elim, add-zero, add_assoc, mul-le-mul_right, add_comm, arith, pow_mono, pow-add}
+use Rattle.std.proofs.Common.{◌≡◌, ℕ, ◌+◌, ◌-◌, ◌*◌, ◌/◌, ◌%◌, ◌^◌, ◌<◌, ◌≤◌, Bool, true, false, cond, eqb, sym, refl, ap, ◌∙◌, ap₂, ⊎_elim, add-zero, add_assoc, add_comm, arith, pow-add}
 use native.Mathlib.Nat.{div-eq_of_lt}
-use Rattle.std.proofs.lemmas.Nat.{pow_pos, shr_split, shr-shr, mod-pow-add, field_of, div-mul-add, mod-mul-add, mod_below, shr_below}
+use Rattle.std.proofs.lemmas.Nat.{pow_pos, shr_split, shr-shr, mod-pow-add, field_of, div-mul-add, mod-mul-add, mod_below, or_shr, or_mod, xor_shr, xor_mod, and_shr, and_mod}
 use Rattle.std.proofs.lemmas.Bool.{eqb-true, eqb-false, cases_lt}
-use Rattle.forms.specs.Sets.{member}
+use Rattle.std.specs.Int.Bits.{bit_and, bit_or, bit_xor, or_zero_r, xor_zero_r, and_zero_r}
+use Rattle.std.proofs.Math.Nat.{mod_self}
+use Rattle.std.specs.Int.{bit_at}
+use Rattle.std.proofs.lemmas.Nat.Bits.{bit_at_or, bit_at_xor, bit_at_and, bit_at-pow_same, bit_at-lt}
+use Rattle.forms.specs.Sets.{member, set_insert, set_remove}
 use Rattle.label.specs.Bits.{others, put_bit}
 
 twice : (k : ℕ) → 2 ^ (k + 1) ≡ 2 * 2 ^ k
@@ -84,21 +88,6 @@ put_bit_same w k = sym (shr_split w (k + 1)) ∙ ap (λ (m : ℕ). w / 2 ^ (k + 
 pub when_clear : (w k : ℕ) → member w k ≡ false → w ≡ others w k
 when_clear w k e = put_bit_same w k ∙ ap (put_bit w k) e ∙ add-zero (others w k)
 
-pub when_set : (w k : ℕ) → member w k ≡ true → w ≡ others w k + 2 ^ k
-when_set w k e = put_bit_same w k ∙ ap (put_bit w k) e
-
-pub bit_fits : (width w k : ℕ) → w < 2 ^ width → k < width → others w k + 2 ^ k < 2 ^ width
-bit_fits width w k fits below =
-    let split : width - (k + 1) + (k + 1) ≡ width = omega arith in
-    let high : w / 2 ^ (k + 1) < 2 ^ (width - (k + 1)) = shr_below w (width - (k + 1)) (k + 1) (rw split fits) in
-    let low : w % 2 ^ k < 2 ^ k = mod_below w (2 ^ k) (pow_pos k) in
-    let all : 2 ^ width ≡ 2 ^ (width - (k + 1)) * 2 ^ (k + 1) = ap (λ (j : ℕ). 2 ^ j) (sym split) ∙ pow-add 2 (width - (k + 1)) (k + 1) in
-    omega (arith, all, twice k, mul-le-mul_right (2 ^ (k + 1)) high)
-
-pub put_bit_fits : (width w k : ℕ) (b : Bool) → w < 2 ^ width → k < width → put_bit w k b < 2 ^ width
-put_bit_fits width w k true fits below = bit_fits width w k fits below
-put_bit_fits width w k false fits below = omega (arith, bit_fits width w k fits below)
-
 -- the other bits are the same where the bits above k and those below are
 pub has_other : (v w k j : ℕ) → (j ≡ k → ⊥) → v / 2 ^ (k + 1) ≡ w / 2 ^ (k + 1) → v % 2 ^ k ≡ w % 2 ^ k → member v j ≡ member w j
 has_other v w k j ne high low = ap (λ (d : ℕ). eqb d 1) (⊎_elim below above (cases_lt j k))
@@ -130,8 +119,41 @@ has_other v w k j ne high low = ap (λ (d : ℕ). eqb d 1) (⊎_elim below above
 pub whole : (v w k : ℕ) → others v k ≡ others w k → member v k ≡ member w k → v ≡ w
 whole v w k rest bit = put_bit_same v k ∙ ap₂ (λ (o : ℕ) (b : Bool). o + cond b (2 ^ k) 0) rest bit ∙ sym (put_bit_same w k)
 
--- a number that fits has no bit past its width
-pub none_above : (width w k : ℕ) → w < 2 ^ width → width ≤ k → member w k ≡ false
-none_above width w k fits past =
-    let small : w < 2 ^ k = omega (arith, pow_mono past) in
-    ap (λ (d : ℕ). eqb (d % 2) 1) (div-eq_of_lt small)
+-- setting or clearing bit k leaves the bits above it and those below
+power-high : (k : ℕ) → 2 ^ k / 2 ^ (k + 1) ≡ 0
+power-high k = div-eq_of_lt (omega (arith, twice k, pow_pos k))
+
+others-insert : (w k : ℕ) → others (set_insert w k) k ≡ others w k
+unfolding set_insert
+others-insert w k =
+    ap₂ (λ (h l : ℕ). h * 2 ^ (k + 1) + l)
+    (or_shr w (2 ^ k) (k + 1) ∙ ap (bit_or (w / 2 ^ (k + 1))) (power-high k) ∙ or_zero_r _)
+    (or_mod w (2 ^ k) k ∙ ap (bit_or (w % 2 ^ k)) (mod_self (2 ^ k)) ∙ or_zero_r _)
+
+others-remove : (w k : ℕ) → others (set_remove w k) k ≡ others w k
+unfolding set_remove
+others-remove w k =
+    ap₂ (λ (h l : ℕ). h * 2 ^ (k + 1) + l)
+    (xor_shr w (bit_and w (2 ^ k)) (k + 1) ∙ ap (bit_xor (w / 2 ^ (k + 1))) (and_shr w (2 ^ k) (k + 1) ∙ ap (bit_and (w / 2 ^ (k + 1))) (power-high k) ∙ and_zero_r _) ∙ xor_zero_r _)
+    (xor_mod w (bit_and w (2 ^ k)) k ∙ ap (bit_xor (w % 2 ^ k)) (and_mod w (2 ^ k) k ∙ ap (bit_and (w % 2 ^ k)) (mod_self (2 ^ k)) ∙ and_zero_r _) ∙ xor_zero_r _)
+
+has-insert : (w k : ℕ) → member (set_insert w k) k ≡ true
+unfolding set_insert
+has-insert w k =
+    let one : bit_at (bit_or w (2 ^ k)) k ≡ 1 = omega (arith, bit_at_or w (2 ^ k) k, bit_at-pow_same k, bit_at-lt w k) in
+    ap (λ (d : ℕ). eqb d 1) one
+
+has-remove : (w k : ℕ) → member (set_remove w k) k ≡ false
+unfolding set_remove
+has-remove w k =
+    let cut = bit_at_and w (2 ^ k) k in
+    let zero : bit_at (bit_xor w (bit_and w (2 ^ k))) k ≡ 0 =
+    omega (arith, bit_at_xor w (bit_and w (2 ^ k)) k, cut, bit_at-pow_same k, bit_at-lt w k) in
+    ap (λ (d : ℕ). eqb d 1) zero
+
+-- a bit set or cleared is that bit put in
+pub set_put : (w k : ℕ) (b : Bool) → b ≡ true → set_insert w k ≡ put_bit w k b
+set_put w k b e = whole (set_insert w k) (put_bit w k b) k (others-insert w k ∙ sym (others-put_bit w k b)) (has-insert w k ∙ sym (member-put_bit w k b ∙ e))
+
+pub clear_put : (w k : ℕ) (b : Bool) → b ≡ false → set_remove w k ≡ put_bit w k b
+clear_put w k b e = whole (set_remove w k) (put_bit w k b) k (others-remove w k ∙ sym (others-put_bit w k b)) (has-remove w k ∙ sym (member-put_bit w k b ∙ e))

@@ -1,6 +1,6 @@
 pub mod Bitwise
 pub mod Columns
-pub mod Successors
+pub mod AnyAndAll
 pub mod Labels
 pub mod Marks
 pub mod Lists

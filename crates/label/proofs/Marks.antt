@@ -1,30 +1,25 @@
 -- The number that marks a state, form by form, and what its bits tell.
-use Rattle.std.proofs.Common.{◌≡◌, ℕ, zero, suc, ◌+◌, ◌*◌, ◌^◌, ◌<◌, ◌≤◌, Bool, true, false, cond, ◌&&◌, ◌||◌, ◌↔◌, List, length, get_or, Some, None, Option, sym, refl, ap, ◌∙◌, subst, ap₂, ⊎_elim, le_refl, pow-suc, add-one, arith}
+use Rattle.std.proofs.Common.{◌≡◌, ℕ, zero, suc, ◌+◌, ◌*◌, ◌^◌, ◌<◌, ◌≤◌, Bool, true, false, cond, ◌&&◌, ◌↔◌, List, ◌++◌, length, get_or, drop, replicate, sym, ap, ◌∙◌, subst, ap₂, ⊎_elim, le_refl, pow-suc, add-one, arith}
 use Rattle.std.proofs.lemmas.Bool.{both_ways, cases_lt, lt-ltb}
 use Rattle.ctl.specs.Model.{Model, IsSerial}
-use Rattle.ctl.specs.Rounds.{Subset, Same, IsMonotone, start, limit}
+use Rattle.ctl.specs.Rounds.{Subset, Same}
 use Rattle.ctl.specs.Meaning.{Holds}
-use Rattle.ctl.specs.Truth.{some_successor, all_successors, truth, form_rounds}
+use Rattle.ctl.specs.Truth.{truth, form_rounds}
 use Rattle.ctl.proofs.Search.{below_suc}
-use Rattle.ctl.proofs.Rounds.{Same_round, iterate_agrees, rounds_agree}
-use Rattle.ctl.proofs.Successors.{IsMonotone-some_successor, IsMonotone-all_successors}
 use Rattle.ctl.proofs.Truth.{DecidesBelow-truth, form_rounds_bounded}
-use Rattle.forms.specs.declared.form.Form.{Form}
-use Rattle.forms.specs.declared.form.Form.TheVariants.{Truth, Falsity, Atom, Absent, And, Or, Next, Until, Release}
-use Rattle.forms.specs.declared.form.Quantifier.{Quantifier}
-use Rattle.forms.specs.declared.form.Quantifier.TheVariants.{Exists, Every}
-use Rattle.forms.specs.Forms.{Table, form, Earlier, IsWellFormed}
+use Rattle.forms.specs.Forms.{Table, form, IsWellFormed}
 use Rattle.forms.specs.Meaning.{formula}
 use Rattle.forms.proofs.Reading.{formula-reading}
 use Rattle.forms.specs.Sets.{member}
 use Rattle.label.specs.Bits.{others, put_bit}
 use Rattle.label.specs.Columns.{column, other_bits, earlier_marks}
-use Rattle.label.specs.Growth.{IsMonotone-form_round}
-use Rattle.label.specs.Rounds.{follow, form_round, direction, outcome, tally, IsMarked}
-use Rattle.label.specs.Show.{mark_below, mark, rounds_below, MarksTell}
-use Rattle.label.proofs.Bitwise.{member-put_bit, put_bit_same, put_bit_high, put_low, has_other, when_clear, none_above}
+use Rattle.label.specs.Rounds.{form_round, direction, outcome, tally, IsMarked}
+use Rattle.label.specs.Show.{mark_below, mark, rounds_below, rounds_of, values, marks_after, scratch_after, MarksTell, IsLabelled}
+use Rattle.label.proofs.Bitwise.{member-put_bit, put_bit_high, put_low, has_other, when_clear, put_bit_same}
+use Rattle.forms.proofs.SetsWithin.{none_above}
 use Rattle.label.proofs.Columns.{member-others}
-use Rattle.label.proofs.Labels.{truth-reading, form_rounds-reading}
+use Rattle.label.proofs.Lists.{values_before}
+use Rattle.label.proofs.Labels.{outcome_alike, tally_alike, truth-reading, form_rounds-reading}
 
 -- the bits of a mark
 
@@ -55,43 +50,11 @@ module _ (T : Table) (m : Model) (t : ℕ) where
       (λ here. subst (λ (k : ℕ). member (put_bit w f b) k ≡ truth m (formula T k) t) (sym here) (member-put_bit w f b))
       (below_suc f i h)
 
--- operands that are known alike give the same states
-
-module _ (m : Model) (g h : ℕ → Subset) where
-  follow_alike : (q : Quantifier) (x y : Subset) → Same m.count x y → Same m.count (follow m q x) (follow m q y)
-  follow_alike Exists x y = Same_round m.count (some_successor m) (IsMonotone-some_successor m) x y
-  follow_alike Every x y = Same_round m.count (all_successors m) (IsMonotone-all_successors m) x y
-
-  form_round_alike : (f : ℕ) → ((i : ℕ) → i < f → Same m.count (g i) (h i)) → (x : Form) → Earlier f x
-      → (set : Subset) → Same m.count (form_round m g x set) (form_round m h x set)
-  form_round_alike f alike Truth e set s l = refl
-  form_round_alike f alike Falsity e set s l = refl
-  form_round_alike f alike (Atom p) e set s l = refl
-  form_round_alike f alike (Absent p) e set s l = refl
-  form_round_alike f alike (And i j) e set s l = ap₂ ◌&&◌ (alike i e.0 s l) (alike j e.1 s l)
-  form_round_alike f alike (Or i j) e set s l = ap₂ ◌||◌ (alike i e.0 s l) (alike j e.1 s l)
-  form_round_alike f alike (Next q i) e set s l = follow_alike q (g i) (h i) (alike i e) s l
-  form_round_alike f alike (Until q i j) e set s l =
-      ap₂ (λ (a b : Bool). b || (a && follow m q set s)) (alike i e.0 s l) (alike j e.1 s l)
-  form_round_alike f alike (Release q i j) e set s l =
-      ap₂ (λ (a b : Bool). b && (a || follow m q set s)) (alike i e.0 s l) (alike j e.1 s l)
-
-module _ (m : Model) (round other : Subset → Subset) (grows : IsMonotone m.count round)
-    (agree : (a : Subset) → Same m.count (round a) (other a)) where
-  outcome_alike : (d : Option Bool) → Same m.count (outcome m.count round d) (outcome m.count other d)
-  unfolding limit
-  outcome_alike None = agree (start false)
-  outcome_alike (Some all) = iterate_agrees m.count round other grows agree all m.count
-
-  tally_alike : (d : Option Bool) → tally m.count round d ≡ tally m.count other d
-  tally_alike None = refl
-  tally_alike (Some all) = rounds_agree m.count round other grows agree all
-
 -- a form more
 
 module _ (T : Table) (well : IsWellFormed T) (m : Model) (f : ℕ) (marks : List ℕ)
     (so_far : (t : ℕ) → t < m.count → get_or marks t 0 ≡ mark_below f T m t) where
-  known : (i : ℕ) → i < f → Same m.count (earlier_marks marks f i) (truth m (formula T i))
+  known : (i : ℕ) → i < f → Same m.count (earlier_marks (other_bits marks f) f i) (truth m (formula T i))
   known i h t l =
       let w = get_or marks t 0 in
       ap (λ (b : Bool). b && member (others w f) i) (lt-ltb i f h)
@@ -99,37 +62,31 @@ module _ (T : Table) (well : IsWellFormed T) (m : Model) (f : ℕ) (marks : List
       ∙ ap (λ (v : ℕ). member v i) (so_far t l)
       ∙ member-mark_below T m t f i h
 
-  agree : (a : Subset) → Same m.count (form_round m (earlier_marks marks f) (form T f) a) (form_round m (λ i. truth m (formula T i)) (form T f) a)
-  agree = form_round_alike m (earlier_marks marks f) (λ i. truth m (formula T i)) f known (form T f) (well f)
-
-  pub outcome_true : Same m.count (outcome m.count (form_round m (earlier_marks marks f) (form T f)) (direction (form T f))) (truth m (formula T f))
+  outcome_true : Same m.count (outcome m.count (form_round m (earlier_marks (other_bits marks f) f) (form T f)) (direction (form T f))) (truth m (formula T f))
   outcome_true t l =
-      outcome_alike m (form_round m (earlier_marks marks f) (form T f)) (form_round m (λ i. truth m (formula T i)) (form T f)) (IsMonotone-form_round m (earlier_marks marks f) (form T f)) agree (direction (form T f)) t l
+      outcome_alike m (earlier_marks (other_bits marks f) f) (λ i. truth m (formula T i)) f known (form T f) (well f) _ t l
       ∙ sym (ap (λ (x : Subset). x t) (truth-reading m (formula T) (form T f)))
       ∙ sym (ap (λ φ. truth m φ t) (formula-reading T well f))
 
-  pub tally_true : tally m.count (form_round m (earlier_marks marks f) (form T f)) (direction (form T f)) ≡ form_rounds m (formula T f)
+  tally_true : tally m.count (form_round m (earlier_marks (other_bits marks f) f) (form T f)) (direction (form T f)) ≡ form_rounds m (formula T f)
   tally_true =
-      tally_alike m (form_round m (earlier_marks marks f) (form T f)) (form_round m (λ i. truth m (formula T i)) (form T f)) (IsMonotone-form_round m (earlier_marks marks f) (form T f)) agree (direction (form T f))
+      tally_alike m (earlier_marks (other_bits marks f) f) (λ i. truth m (formula T i)) f known (form T f) (well f) _
       ∙ sym (form_rounds-reading m (formula T) (form T f))
       ∙ sym (ap (form_rounds m) (formula-reading T well f))
 
-  pub marked_more : (after : List ℕ) (taken : ℕ) → IsMarked m (earlier_marks marks f) (form T f) (column after f) taken
-      → other_bits after f ≡ other_bits marks f
-      → (t : ℕ) → t < m.count → get_or after t 0 ≡ mark_below (f + 1) T m t
-  unfolding mark_below
-  marked_more after taken marked rest t l =
-      let v = get_or after t 0 in
-      let w = mark_below f T m t in
-      let b = truth m (formula T f) t in
-      put_bit_same v f
-      ∙ ap₂ (λ (o : ℕ) (c : Bool). o + cond c (2 ^ f) 0) (ap (λ (x : ℕ → ℕ). x t) rest ∙ ap (λ (u : ℕ). others u f) (so_far t l)) (marked.made t l ∙ outcome_true t l)
-      ∙ put_bit_above w f b (mark_below_fits T m t f)
-      ∙ sym (ap (λ (k : ℕ). mark_below k T m t) (add-one f))
+  module _ (after : List ℕ) (taken : ℕ) (marked : IsMarked m (earlier_marks (other_bits marks f) f) (form T f) (column after f) taken) where
+    pub marked_more : other_bits after f ≡ other_bits marks f → (t : ℕ) → t < m.count → get_or after t 0 ≡ mark_below (f + 1) T m t
+    unfolding mark_below
+    marked_more rest t l =
+        put_bit_same (get_or after t 0) f
+        ∙ ap₂ (λ (o : ℕ) (b : Bool). o + cond b (2 ^ f) 0)
+        (ap (λ (x : ℕ → ℕ). x t) rest ∙ ap (λ (w : ℕ). others w f) (so_far t l)) (marked.made t l ∙ outcome_true t l)
+        ∙ put_bit_above (mark_below f T m t) f (truth m (formula T f) t) (mark_below_fits T m t f)
+        ∙ sym (ap (λ (k : ℕ). mark_below k T m t) (add-one f))
 
-pub rounds_below_more : (T : Table) (m : Model) (f so_far r : ℕ) → so_far ≡ rounds_below f T m → r ≡ form_rounds m (formula T f) → so_far + r ≡ rounds_below (f + 1) T m
-unfolding rounds_below
-rounds_below_more T m f so_far r e h = rw add-one (omega (arith, e, h))
+    pub rounds_below_more : (so_far : ℕ) → so_far ≡ rounds_below f T m → so_far + taken ≡ rounds_below (f + 1) T m
+    unfolding rounds_below
+    rounds_below_more so_far e = rw add-one (omega (arith, e, marked.counted ∙ tally_true))
 
 pub rounds_below_few : (T : Table) (m : Model) → m.count ≤ 1024 → (f : ℕ) → rounds_below f T m ≤ f * 1025
 unfolding rounds_below
@@ -152,3 +109,18 @@ marks_tell T m serial marks at t l f =
     let tells = member-mark T m serial t l f in
     let same = ap (λ (v : ℕ). member v f) (at t l) in
     ((λ e. tells.0 (sym same ∙ e)), λ p. same ∙ tells.1 p)
+
+-- what a labelling leaves in longer buffers
+pub labelled : (T : Table) (m : Model) → IsSerial m → (taken n : ℕ) (marks made scratch zeros : List ℕ) → n ≡ m.count
+    → made ≡ values (mark T m) m.count → zeros ≡ replicate m.count 0 → taken ≡ rounds_of T m
+    → IsLabelled T m taken marks (made ++ drop n marks) scratch (zeros ++ drop n scratch)
+unfolding marks_after scratch_after
+labelled T m serial taken n marks made scratch zeros size is cleared counted =
+    let at : (t : ℕ) → t < m.count → get_or (made ++ drop n marks) t 0 ≡ mark T m t = λ t h. rw is (values_before (mark T m) m.count (drop n marks) t h) in
+    record {
+      tells = marks_tell T m serial _ at;
+      each = at;
+      marks_are = rw (is, size);
+      scratch_is = rw (cleared, size);
+      counted = counted;
+    }

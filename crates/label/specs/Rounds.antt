@@ -28,15 +28,9 @@ form_round m given (Release q i j) x s = release_round (follow m q) (given i) (g
 
 -- from which set the rounds of a form are repeated: none for until, all for release; the others look at no set
 abbrev pub direction : Form → Option Bool
-direction Truth = None
-direction Falsity = None
-direction (Atom p) = None
-direction (Absent p) = None
-direction (And i j) = None
-direction (Or i j) = None
-direction (Next q i) = None
 direction (Until q i j) = Some false
 direction (Release q i j) = Some true
+direction _ = None
 
 -- what a round comes to, made once or repeated, and how many rounds are counted for it
 abbrev pub outcome : ℕ → (Subset → Subset) → Option Bool → Subset

@@ -59,7 +59,7 @@ abbrev pub has_room : Model → (marks scratch : List ℕ) → Bool
 has_room m marks scratch = nat_le m.count (length marks) && nat_le m.count (length scratch)
 
 -- a labelling is made where the buffers have room for it; otherwise it is refused, and they stay
-abbrev pub IsLabelling : Table → Model → Result ℕ Refusal → (marks marks' scratch scratch' : List ℕ) → Type 0
-IsLabelling T m (Ok taken) marks marks' scratch scratch' = (has_room m marks scratch ≡ true) × IsLabelled T m taken marks marks' scratch scratch'
-IsLabelling T m (Err why) marks marks' scratch scratch' =
+abbrev pub IsLabelResult : Table → Model → Result ℕ Refusal → (marks marks' scratch scratch' : List ℕ) → Type 0
+IsLabelResult T m (Ok taken) marks marks' scratch scratch' = (has_room m marks scratch ≡ true) × IsLabelled T m taken marks marks' scratch scratch'
+IsLabelResult T m (Err why) marks marks' scratch scratch' =
     (has_room m marks scratch ≡ false) × (why ≡ BuffersTooShort) × (marks' ≡ marks) × (scratch' ≡ scratch)

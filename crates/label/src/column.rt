@@ -1,68 +1,55 @@
-// One form's column of the marks, as the two sets of a search: the mark's bit is the current set, the lowest scratch bit the next.
-ghost use Rattle.std.specs.Prelude.{◌≡◌, ◌<◌};
-ghost use Rattle.forms.specs.Sets.{member};
+// One form's column of the marks, as a set of states.
+ghost use Rattle.std.specs.Prelude.{◌≡◌, ◌<◌, length};
 ghost use Rattle.label.specs.Bits.{put_bit};
-ghost use Rattle.label.specs.Columns.{column, Rest, earlier_marks_in, room_in, rest_in, current_in};
 
-use fixpoint::pairs::SetPair;
+use fixpoint::index_set::IndexSet;
+use forms::set::{contains, with, without};
 
-pub fn has_bit(w: u64, k: u8) -> bool
-    requires { k < 64 }
-    ensures { result ≡ member w k }
-{
-    (w >> k) % 2 == 1
-}
-
-pub fn put_bit(w: u64, k: u8, b: bool) -> u64
+// w with bit k as b says: b is the bit that is written, and no flag.
+#[tactic(auto, using(crate::proofs::Bitwise::set_put, crate::proofs::Bitwise::clear_put))]
+fn put_bit(w: u64, k: u8, b: bool) -> u64
     requires { k < 64 }
     ensures { result ≡ put_bit w k b }
 {
-    let old = has_bit(w, k);
-    if old == b {
-        return w;
-    }
-    if b { w + (1 << k) } else { w - (1 << k) }
+    if b { with(w, k) } else { without(w, k) }
 }
 
+// One form's column of the marks: the states that are marked with it.
 #[derive(Drop)]
-pub struct Column<'a> {
-    pub marks: &'a mut [u64],
-    pub scratch: &'a mut [u8],
-    pub form: u8,
+pub(crate) struct Column<'a> {
+    pub(crate) marks: &'a mut [u64],
+    pub(crate) form: u8,
+    ghost fits: { form < 64 },
 }
 
-impl<'a> SetPair for Column<'a> {
-    ghost room = { room_in };
+impl<'a> Column<'a> {
+    ghost use Rattle.label.specs.Columns.{rest_in, earlier};
 
-    ghost current = { current_in };
+    // Whether state i is marked with form f; not so for a form that does not come before the column's own.
+    pub(crate) fn has_earlier(&self, f: u8, i: usize) -> bool
+        requires { i < length self.now.marks.now }
+        ensures { result ≡ earlier (rest_in self.now) f i }
+    {
+        f < self.form && contains(self.marks[i], f)
+    }
+}
 
-    ghost next = { λ s. column s.scratch.now 0 };
+impl<'a> IndexSet for Column<'a> {
+    ghost use Rattle.label.specs.Columns.{Rest, marked_in, rest_in};
+
+    ghost members = { marked_in };
 
     ghost Rest = { Rest };
 
     ghost rest = { rest_in };
 
-    ghost given = { earlier_marks_in };
+    ghost room = { λ q. q.count };
 
-    fn in_current(&self, i: usize) -> bool {
-        has_bit(self.marks[i], self.form)
+    fn contains(&self, i: usize) -> bool {
+        contains(self.marks[i], self.form)
     }
 
-    fn in_next(&self, i: usize) -> bool {
-        self.scratch[i] % 2 == 1
-    }
-
-    // The marks of the earlier forms.
-    fn in_given(&self, f: u8, i: usize) -> bool {
-        f < self.form && has_bit(self.marks[i], f)
-    }
-
-    fn set_current(&mut self, i: usize, b: bool) {
+    fn put(&mut self, i: usize, b: bool) {
         self.marks[i] = put_bit(self.marks[i], self.form, b);
-    }
-
-    fn set_next(&mut self, i: usize, b: bool) {
-        let low = if b { 1 } else { 0 };
-        self.scratch[i] = self.scratch[i] / 2 * 2 + low;
     }
 }

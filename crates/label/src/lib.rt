@@ -2,9 +2,11 @@
 #![tactic(auto)]
 
 mod column;
+mod find;
 mod labelling;
 mod mark;
 mod rounds;
-mod sets;
+mod scratch;
+mod successors;
 
 pub use labelling::label;

@@ -1,89 +1,138 @@
-// The rounds over a machine.
-ghost use Rattle.std.specs.Prelude.{◌≡◌, ◌<◌, ◌≤◌};
-ghost use Rattle.std.specs.Bool.{beq};
-ghost use Rattle.ctl.specs.Truth.{some_successor};
-ghost use Rattle.forms.specs.Sets.{member};
+// The four rounds over a machine: of until and of release, by some successor and by all. It is a rule of
+// this project that four rounds each prove the law that they are monotone, so each is a type and an impl of its own.
+ghost use Rattle.std.specs.Prelude.{◌≡◌};
+ghost use Rattle.std.proofs.Common.{ap};
+ghost use Rattle.forms.specs.declared.form.Form.TheVariants.{Until, Release};
+ghost use Rattle.forms.specs.declared.form.Quantifier.TheVariants.{Exists, Every};
+ghost use Rattle.label.specs.Columns.{earlier, rest_in, round_in};
 ghost use Rattle.label.specs.Growth.{IsMonotone-form_round};
-ghost use Rattle.label.specs.Rounds.{follow, form_round};
 
-use crate::sets::{Collection, Current, Given};
-use fixpoint::pairs::SetPair;
+use crate::column::Column;
+use crate::successors::{all_successors, some_successor};
+use fixpoint::index_set::IndexSet;
 use fixpoint::round::Round;
-use forms::form::{Form, Quantifier};
 use machine::interface::Machine;
 
-// Whether atom p is among the atoms.
-fn has_atom(atoms: u32, p: u8) -> bool
-    ensures { result ≡ member atoms p }
-{
-    p < 32 && (atoms >> p) % 2 == 1
-}
-
-// Whether some successor of s is in the set, if that is wanted, or else is not in it: up to the first such.
-fn some_with<M: Machine, X: Collection>(machine: &M, set: &X, s: usize, wanted: bool) -> bool
-    requires { (M.Machine.model machine.now).count ≤ X.Collection.extent set.now }
-    ensures { result ≡ some_successor (M.Machine.model machine.now) (λ t. beq (X.Collection.members set.now t) wanted) s }
-{
-    let n = machine.count();
-    for t in 0..n {
-        if set.contains(t) == wanted && machine.leads(s, t) {
-            return true;
-        }
-    }
-    false
-}
-
-// Whether some successor of s is in the set, or all are.
-fn successors_in<M: Machine, X: Collection>(
-    machine: &M,
-    quantifier: Quantifier,
-    set: &X,
-    s: usize,
-) -> bool
-    requires { (M.Machine.model machine.now).count ≤ X.Collection.extent set.now }
-    ensures { result ≡ follow (M.Machine.model machine.now) quantifier (X.Collection.members set.now) s }
-{
-    match quantifier {
-        Quantifier::Exists => some_with(machine, set, s, true),
-        Quantifier::Every => !some_with(machine, set, s, false),
-    }
-}
-
-// The round of a form; its operands are the sets given.
+// Until on some path: b holds, or a does and some successor is in the set.
 #[derive(Drop)]
-pub struct FormRound<'m, M> {
-    pub machine: &'m M,
-    pub form: Form,
+pub(crate) struct UntilSome<'a, M> {
+    pub(crate) machine: &'a M,
+    pub(crate) a: u8,
+    pub(crate) b: u8,
 }
 
-impl<'m, M: Machine> Round for FormRound<'m, M> {
-    ghost size = { λ r. (M.Machine.model r.machine.now).count };
+impl<'a, M: Machine> Round<Column<'a>> for UntilSome<'a, M> {
+    ghost size = { λ r. (M.model r.machine.now).count };
 
-    ghost step = { λ r given. form_round (M.Machine.model r.machine.now) given r.form };
-
-    ghost monotone = { λ r given. IsMonotone-form_round (M.Machine.model r.machine.now) given r.form };
+    ghost step = { λ r c. round_in (M.model r.machine.now) (Until Exists r.a r.b) (rest_in c) };
 
     fn count(&self) -> usize {
         self.machine.count()
     }
 
-    fn holds<S: SetPair>(&self, i: usize, sets: &S) -> bool {
-        match self.form {
-            Form::Truth => true,
-            Form::Falsity => false,
-            Form::Atom(p) => has_atom(self.machine.atoms(i), p),
-            Form::Absent(p) => !has_atom(self.machine.atoms(i), p),
-            Form::And(a, b) => sets.in_given(a, i) && sets.in_given(b, i),
-            Form::Or(a, b) => sets.in_given(a, i) || sets.in_given(b, i),
-            Form::Next(q, a) => successors_in(self.machine, q, &Given { sets, number: a }, i),
-            Form::Until(q, a, b) => {
-                sets.in_given(b, i)
-                    || (sets.in_given(a, i) && successors_in(self.machine, q, &Current { sets }, i))
-            }
-            Form::Release(q, a, b) => {
-                sets.in_given(b, i)
-                    && (sets.in_given(a, i) || successors_in(self.machine, q, &Current { sets }, i))
-            }
-        }
+    fn holds(&self, s: usize, marked: &Column<'a>) -> bool {
+        marked.has_earlier(self.b, s)
+            || (marked.has_earlier(self.a, s)
+                && some_successor(self.machine, s, |t| marked.contains(t)))
     }
+
+    ghost monotone = { λ r c.
+        IsMonotone-form_round (M.model r.machine.now) (earlier (rest_in c))
+        (Until Exists r.a r.b) };
+
+    ghost steady = { λ r c c' same.
+        ap (round_in (M.model r.machine.now) (Until Exists r.a r.b)) same };
+}
+
+// Until on all paths: b holds, or a does and all successors are in the set.
+#[derive(Drop)]
+pub(crate) struct UntilAll<'a, M> {
+    pub(crate) machine: &'a M,
+    pub(crate) a: u8,
+    pub(crate) b: u8,
+}
+
+impl<'a, M: Machine> Round<Column<'a>> for UntilAll<'a, M> {
+    ghost size = { λ r. (M.model r.machine.now).count };
+
+    ghost step = { λ r c. round_in (M.model r.machine.now) (Until Every r.a r.b) (rest_in c) };
+
+    fn count(&self) -> usize {
+        self.machine.count()
+    }
+
+    fn holds(&self, s: usize, marked: &Column<'a>) -> bool {
+        marked.has_earlier(self.b, s)
+            || (marked.has_earlier(self.a, s)
+                && all_successors(self.machine, s, |t| marked.contains(t)))
+    }
+
+    ghost monotone = { λ r c.
+        IsMonotone-form_round (M.model r.machine.now) (earlier (rest_in c))
+        (Until Every r.a r.b) };
+
+    ghost steady = { λ r c c' same.
+        ap (round_in (M.model r.machine.now) (Until Every r.a r.b)) same };
+}
+
+// Release on some path: b holds, and a does or some successor is in the set.
+#[derive(Drop)]
+pub(crate) struct ReleaseSome<'a, M> {
+    pub(crate) machine: &'a M,
+    pub(crate) a: u8,
+    pub(crate) b: u8,
+}
+
+impl<'a, M: Machine> Round<Column<'a>> for ReleaseSome<'a, M> {
+    ghost size = { λ r. (M.model r.machine.now).count };
+
+    ghost step = { λ r c. round_in (M.model r.machine.now) (Release Exists r.a r.b) (rest_in c) };
+
+    fn count(&self) -> usize {
+        self.machine.count()
+    }
+
+    fn holds(&self, s: usize, marked: &Column<'a>) -> bool {
+        marked.has_earlier(self.b, s)
+            && (marked.has_earlier(self.a, s)
+                || some_successor(self.machine, s, |t| marked.contains(t)))
+    }
+
+    ghost monotone = { λ r c.
+        IsMonotone-form_round (M.model r.machine.now) (earlier (rest_in c))
+        (Release Exists r.a r.b) };
+
+    ghost steady = { λ r c c' same.
+        ap (round_in (M.model r.machine.now) (Release Exists r.a r.b)) same };
+}
+
+// Release on all paths: b holds, and a does or all successors are in the set.
+#[derive(Drop)]
+pub(crate) struct ReleaseAll<'a, M> {
+    pub(crate) machine: &'a M,
+    pub(crate) a: u8,
+    pub(crate) b: u8,
+}
+
+impl<'a, M: Machine> Round<Column<'a>> for ReleaseAll<'a, M> {
+    ghost size = { λ r. (M.model r.machine.now).count };
+
+    ghost step = { λ r c. round_in (M.model r.machine.now) (Release Every r.a r.b) (rest_in c) };
+
+    fn count(&self) -> usize {
+        self.machine.count()
+    }
+
+    fn holds(&self, s: usize, marked: &Column<'a>) -> bool {
+        marked.has_earlier(self.b, s)
+            && (marked.has_earlier(self.a, s)
+                || all_successors(self.machine, s, |t| marked.contains(t)))
+    }
+
+    ghost monotone = { λ r c.
+        IsMonotone-form_round (M.model r.machine.now) (earlier (rest_in c))
+        (Release Every r.a r.b) };
+
+    ghost steady = { λ r c c' same.
+        ap (round_in (M.model r.machine.now) (Release Every r.a r.b)) same };
 }

@@ -9,14 +9,14 @@ use Rattle.forms.specs.Tables.{result_given}
 use Rattle.label.specs.Show.{rounds_of}
 use Rattle.protocol.specs.declared.line.Standing.TheVariants.{Possible}
 use Rattle.protocol.specs.State.{State, most_lines, standing, is_free, with_book, with_line}
-use Rattle.protocol.specs.Calls.{Outcome, taken, declined, outcome_given, held_part, state_shown, on_show}
-use Rattle.register.specs.Books.{room_for, lines_after, noted_lines}
+use Rattle.protocol.specs.Calls.{Outcome, taken, declined, outcome_given, held_part, state_after_show, on_show}
+use Rattle.register.specs.Books.{room_for, lines_after_add, lines_after_note}
 use Rattle.register.specs.Shows.{showable_in}
 
 module _ (s : State) (set state : ℕ) (m : Model) where
   -- the outcome of a show that is taken, or else refused
   abbrev outcome_of : Result Unit Refusal → Outcome
-  outcome_of (Ok x) = taken (held_part s.table m set state ∷ rounds_of s.table m ∷ []) (state_shown s set (held_part s.table m set state))
+  outcome_of (Ok x) = taken (held_part s.table m set state ∷ rounds_of s.table m ∷ []) (state_after_show s set (held_part s.table m set state))
   outcome_of (Err why) = declined why 0
 
   through : (b : Bool) (why : Refusal) (r : Result Unit Refusal) → outcome_of (result_given b why r) ≡ outcome_given b why (outcome_of r)
@@ -54,19 +54,19 @@ module _ (s : State) (set state n marks scratch : ℕ) (x : Unit) (taken_is : �
   has_room_for = at_state.1
 
 -- the register once the set was noted
-pub with_book-noted_lines : (s : State) (set part : ℕ) → room_for s.book set ≡ true → with_book s (noted_lines s.book set part) ≡ state_shown s set part
-with_book-noted_lines s set part room = go (eqb part set && is_free (standing s.book set)) refl
+pub with_book-lines_after_note : (s : State) (set part : ℕ) → room_for s.book set ≡ true → with_book s (lines_after_note s.book set part) ≡ state_after_show s set part
+with_book-lines_after_note s set part room = by_cases (eqb part set && is_free (standing s.book set)) refl
   where
     line_free : (b : Bool) → b ≡ true → (not b || ltb (length s.book) most_lines) ≡ true → ltb (length s.book) most_lines ≡ true
     line_free true e k = k
     line_free false e k = absurd (both_ways false refl e)
 
-    joins : ltb (length s.book) most_lines ≡ true → with_book s (lines_after s.book (record { set = set; standing = Possible })) ≡ with_line s set Possible
+    joins : ltb (length s.book) most_lines ≡ true → with_book s (lines_after_add s.book (record { set = set; standing = Possible })) ≡ with_line s set Possible
     joins e = ap (λ (b : Bool). with_book s (cond b (s.book ++ record { set = set; standing = Possible } ∷ []) s.book)) e
 
-    go : (b : Bool) → (eqb part set && is_free (standing s.book set)) ≡ b → with_book s (cond b (lines_after s.book (record { set = set; standing = Possible })) s.book) ≡ cond b (with_line s set Possible) s
-    go true e = joins (line_free (is_free (standing s.book set)) (and_parts _ _ e).1 room)
-    go false e = refl
+    by_cases : (b : Bool) → (eqb part set && is_free (standing s.book set)) ≡ b → with_book s (cond b (lines_after_add s.book (record { set = set; standing = Possible })) s.book) ≡ cond b (with_line s set Possible) s
+    by_cases true e = joins (line_free (is_free (standing s.book set)) (and_parts _ _ e).1 room)
+    by_cases false e = refl
 
 -- a show by what the code found: whether it is taken, by a count of states that is the machine's
 module _ (s : State) (set state : ℕ) (m : Model) (marks scratch n : ℕ) (counted : n ≡ m.count) where
@@ -77,5 +77,5 @@ module _ (s : State) (set state : ℕ) (m : Model) (marks scratch n : ℕ) (coun
   show_refused why e = ap (outcome_of s set state m) (e ∙ same) ∙ sym (on_show-outcome_of s set state m marks scratch)
 
   pub show_taken : (x : Unit) → ◌≡◌ {A = Result Unit Refusal} (Ok x) (showable_in s set state n marks scratch)
-      → taken (held_part s.table m set state ∷ rounds_of s.table m ∷ []) (state_shown s set (held_part s.table m set state)) ≡ on_show s set state m marks scratch
+      → taken (held_part s.table m set state ∷ rounds_of s.table m ∷ []) (state_after_show s set (held_part s.table m set state)) ≡ on_show s set state m marks scratch
   show_taken x e = ap (outcome_of s set state m) (e ∙ same) ∙ sym (on_show-outcome_of s set state m marks scratch)

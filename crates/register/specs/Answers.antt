@@ -1,5 +1,5 @@
 -- What the calls of the register answer, by case.
-use Rattle.std.specs.Prelude.{ℕ, [], ◌∷◌, Some, None, Ok, Err, Option, Result}
+use Rattle.std.specs.Prelude.{ℕ, [], ◌∷◌, Some, None, Ok, Err, Option, Result, ⊤}
 use Rattle.forms.specs.declared.refusal.Refusal.{Refusal}
 use Rattle.forms.specs.Forms.{Table}
 use Rattle.protocol.specs.declared.line.Standing.{Standing}
@@ -14,6 +14,6 @@ number_answer (Err why) = refused why 0
 
 -- how a set stands is so
 abbrev pub StandsTruly : Table → ℕ → Option Standing → Type 0
-StandsTruly T set None = Unit {0}
+StandsTruly T set None = ⊤
 StandsTruly T set (Some Impossible) = HoldsNowhere T set
 StandsTruly T set (Some Possible) = ∥ HoldsSomewhere T set ∥₁

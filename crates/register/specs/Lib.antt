@@ -1,5 +1,5 @@
 pub mod Books
-pub mod View
 pub mod Answers
 pub mod Shows
 pub mod Loads
+pub mod Walking

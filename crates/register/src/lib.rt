@@ -3,9 +3,6 @@
 
 pub mod body;
 mod book;
-mod calls;
-mod lines;
-mod loading;
 pub mod register;
 pub mod showing;
 mod trees;

@@ -2,7 +2,6 @@
 ghost use Rattle.std.specs.Prelude.{◌≡◌, length};
 ghost use Rattle.protocol.specs.Calls.{show as show_call, answer as answer_to, state_after};
 ghost use Rattle.protocol.specs.Promises.{HeldTells};
-ghost use Rattle.register.specs.View.{view};
 ghost use Rattle.register.specs.Shows.{shown_answer, showable_in, Buffers};
 
 use crate::register::Register;
@@ -10,15 +9,19 @@ use forms::Refusal;
 use label::label;
 use machine::Machine;
 
-// What a show found: the part of the set that holds at the state, and the rounds that the labelling took.
-#[derive(Clone, Copy)]
+/// What a show found: the part of the set that holds at the state, bit f for form f, and how many rounds it took.
+#[derive(Clone, Copy, PartialEq, Eq, Debug)]
 pub struct Shown {
     pub held: u64,
     pub rounds: usize,
 }
 
+// Machine, marks and scratch are three parameters, as small display computers own them and lend them.
 impl Register {
-    // Labels the machine's states with the forms of the table. Where all of the set holds at the state, it is entered as possible.
+    /// Labels the machine's states as `label` does; `marks` has 64 bits a state, `scratch` a byte a state.
+    /// Where all of the set holds at the state, counted from 0, and the set does not stand, it is entered as possible.
+    /// Refused, in this order, with `SetBeyondTable` (4), `StateBeyondMachine` (5), `BuffersTooShort` (13) or, where the
+    /// set does not stand, `BookFull` (22); then nothing changes, marks and scratch neither.
     pub fn show<M: Machine>(
         &mut self,
         set: u64,
@@ -27,9 +30,12 @@ impl Register {
         marks: &mut [u64],
         scratch: &mut [u8],
     ) -> Result<Shown, Refusal>
-        ensures answer { shown_answer result ≡ answer_to (view self.old) (show_call set state (M.Machine.model machine.now) (length marks.old) (length scratch.old)) }
-        ensures after { view self.new ≡ state_after (view self.old) (show_call set state (M.Machine.model machine.now) (length marks.old) (length scratch.old)) }
-        ensures buffers { Buffers (view self.old).table (M.Machine.model machine.now) result marks.old marks.new scratch.old scratch.new }
+        ensures answer { shown_answer result ≡ answer_to self.old (show_call set state
+            (M.Machine.model machine.now) (length marks.old) (length scratch.old)) }
+        ensures after { self.new ≡ state_after self.old (show_call set state
+            (M.Machine.model machine.now) (length marks.old) (length scratch.old)) }
+        ensures buffers { Buffers self.old.table (M.Machine.model machine.now) result
+            marks.old marks.new scratch.old scratch.new }
         ensures held_tells { HeldTells }
     {
         self.showable(set, state, machine.count(), marks.len(), scratch.len())?;
@@ -39,7 +45,8 @@ impl Register {
         Ok(Shown { held, rounds })
     }
 
-    // Whether a show of the set at the state of a machine of n states is taken.
+    // Whether a show of the set at the state of a machine of n states is taken. Five numbers, since a
+    // struct of them would be made and taken apart for this one call.
     fn showable(
         &self,
         set: u64,
@@ -48,7 +55,7 @@ impl Register {
         marks: usize,
         scratch: usize,
     ) -> Result<(), Refusal>
-        ensures { result ≡ showable_in (view self.now) set state n marks scratch }
+        ensures { result ≡ showable_in self.now set state n marks scratch }
     {
         if !self.table.has_all(set) {
             return Err(Refusal::SetBeyondTable);

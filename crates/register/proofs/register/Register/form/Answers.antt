@@ -1,16 +1,23 @@
-use Rattle.std.proofs.Common.{◌≡◌, length, rules}
-use Rattle.forms.specs.Tables.{forms_of, accepted_form}
+use Rattle.std.proofs.Common.{List, ap, ◌∙◌, length, rules}
+use Rattle.forms.specs.declared.form.Form.{Form}
+use Rattle.forms.specs.Tables.{accepted_form}
 use Rattle.protocol.specs.State.{with_table}
-use Rattle.protocol.specs.Calls.{form, state_after}
-use Rattle.register.specs.View.{view}
-use Rattle.register.proofs.Kept.{kept_by, state_of-form_outcome}
+use Rattle.protocol.specs.Calls.{form}
+use Rattle.register.specs.Answers.{number_answer}
+use Rattle.register.proofs.Kept.{seen, kept_by, state_of-form_outcome, formed-answer}
 use Rattle.register.proofs.register.Register.form.Goals as goal
+
+pub returns : goal.returns
+returns c =
+    let s = seen c.self.inside in
+    let taken = accepted_form (length s.table) c.args.kind c.args.a c.args.b in
+    rw (← c.self.view_is) (record {
+      answer = ap number_answer c.add.ensures.number ∙ formed-answer s taken;
+      after = ap (λ (T : List Form). with_table s T) c.add.ensures.after ∙ state_of-form_outcome s taken;
+    })
 
 pub invariant_of-self : goal.invariant_of-self
 invariant_of-self c =
-    let self = c.args.self.now in
-    let s = view self in
-    let result = accepted_form (length s.table) c.args.kind c.args.a c.args.b in
-    let moved = state_of-form_outcome s result in
-    let later : with_table s (forms_of c.add.new.self) ≡ state_after s (form c.args.kind c.args.a c.args.b) = cc in
-    record { sound = kept_by s _ (form c.args.kind c.args.a c.args.b) (search rules, search rules, search rules) later self.sound }
+    let s = seen c.self.inside in
+    let after = ap (λ (T : List Form). with_table s T) c.add.ensures.after ∙ state_of-form_outcome s (accepted_form (length s.table) c.args.kind c.args.a c.args.b) in
+    kept_by s _ (form c.args.kind c.args.a c.args.b) (search rules, search rules, search rules) after c.self.invariant

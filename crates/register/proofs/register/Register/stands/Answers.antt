@@ -1,11 +1,10 @@
 use Rattle.protocol.proofs.Kept.{promises}
-use Rattle.register.specs.View.{view}
-use Rattle.register.proofs.Kept.{StandsTruly_standing}
+use Rattle.register.proofs.Kept.{seen, StandsTruly_standing}
 use Rattle.register.proofs.register.Register.stands.Goals as goal
 
 pub returns : goal.returns
-returns c = record {
+returns c = rw (← c.self.view_is) (record {
   value = cc;
-  truth = StandsTruly_standing (view c.args.self.now) c.args.set c.standing.result (cc) c.args.self.now.sound;
+  truth = StandsTruly_standing (seen c.self.inside) c.args.set c.standing.result (cc) c.self.invariant;
   promises = promises;
-}
+})

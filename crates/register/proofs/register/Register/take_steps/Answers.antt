@@ -1,56 +1,47 @@
-use Rattle.std.proofs.Common.{ℕ, suc, ◌+◌, ◌^◌, ◌<◌, ◌≤◌, List, length, drop, sym, ap, ◌∙◌, add-one, arith, rules}
-use Rattle.std.proofs.lemmas.List.{take_rest}
+use Rattle.std.proofs.Common.{ℕ, suc, [], map, get_or, drop, sym, ap, ◌∙◌, add-one, rules}
+use Rattle.std.proofs.lemmas.List.{drop_all}
+use Rattle.forms.specs.declared.refusal.Rejected.{Rejected}
 use Rattle.protocol.specs.State.{State}
-use Rattle.forms.specs.Bodies.{records}
-use Rattle.protocol.specs.Calls.{in_turn, node_on}
-use Rattle.register.specs.View.{view}
-use Rattle.register.proofs.Stepping.{first, records_more, records_none, records_few, step_accepted, step_refused, step_walk_alone, walk_alone_on, none_in_turn}
+use Rattle.protocol.specs.Calls.{declined, in_turn, node_on}
+use Rattle.register.specs.Loads.{record_of}
+use Rattle.register.proofs.Stepping.{steps_from, step_accepted, step_refused, step_walk_alone, walk_alone_on, none_in_turn}
 use Rattle.register.proofs.register.Register.take_steps.Goals as goal
 
 pub returns-in-Err : goal.returns-in-Err
 returns-in-Err c =
-    let s = view c.args.self.now in
-    let mid = view c.loop-rest.self in
-    let rest = c.loop-rest.rest.now in
-    let three : 3 ≤ length rest = (let q = c.in-len3-up in search rules) in
+    let s = c.args.self.now in
+    let mid = c.loop-at.self in
+    let steps = c.args.steps.now in
+    let k = c.loop-at.at in
+    let step = record_of (get_or steps k []) in
     let node = c.in-Err.ensures in (
-      c.loop-rest.invariant.0 ∙ ap (in_turn node_on mid c.loop-rest.at) (records_more rest three)
-          ∙ step_refused mid (first rest) (records (drop 3 rest)) c.loop-rest.at c.in-Err.refusal node.answer,
-      walk_alone_on s mid _ c.loop-rest.invariant.2 (step_walk_alone mid _ (first rest) node.after),
+      c.loop-at.invariant.0
+          ∙ ap (in_turn node_on mid k) (steps_from steps k c.loop-at-test.true)
+          ∙ step_refused mid step (map record_of (drop (suc k) steps)) k c.in-Err.refusal node.answer
+          ∙ ap (λ (r : Rejected). declined r.refusal r.at) (sym c.at.ensures),
+      walk_alone_on s mid _ c.loop-at.invariant.1 (step_walk_alone mid _ step node.after),
     )
 
-pub overflow_add-at : goal.overflow_add-at
-overflow_add-at c =
-    let rest = c.loop-rest.rest.now in
-    let three : 3 ≤ length rest = (let q = c.in-len3-up in search rules) in
-    let few = records_few c.args.steps.now in
-    let long : length c.args.steps.now < 2 ^ 64 = search rules in
-    omega (arith, c.loop-rest.invariant.1, ap length (records_more rest three), few, long)
-
-pub loop-rest-preserved : goal.loop-rest-preserved
-loop-rest-preserved c =
-    let s = view c.args.self.now in
-    let mid = view c.loop-rest.self in
-    let rest = c.loop-rest.rest.now in
-    let three : 3 ≤ length rest = (let q = c.in-len3-up in search rules) in
-    let node = c.in_default-node.ensures in
-    let left = take_rest rest 3 in
-    let at = c.loop-rest.at in
-    let more = records_more rest three in (
-      c.loop-rest.invariant.0 ∙ ap (in_turn node_on mid at) more
-          ∙ step_accepted mid (first rest) (records (drop 3 rest)) at _ node.answer
-          ∙ ap (λ (t : State). in_turn node_on t (suc at) (records (drop 3 rest))) (sym node.after)
-          ∙ ap (λ (k : ℕ). in_turn node_on (view c.node.new.self) k (records (drop 3 rest))) (sym (add-one at))
-          ∙ ap (λ (l : List ℕ). in_turn node_on (view c.node.new.self) (at + 1) (records l)) (sym left),
-      omega (arith, c.loop-rest.invariant.1, ap length more, ap (λ (l : List ℕ). length (records l)) left),
-      walk_alone_on s mid _ c.loop-rest.invariant.2 (step_walk_alone mid _ (first rest) node.after),
+pub loop-at-preserved : goal.loop-at-preserved
+loop-at-preserved c =
+    let s = c.args.self.now in
+    let mid = c.loop-at.self in
+    let steps = c.args.steps.now in
+    let k = c.loop-at.at in
+    let step = record_of (get_or steps k []) in
+    let left = map record_of (drop (suc k) steps) in
+    let node = c.in_default.ensures in (
+      c.loop-at.invariant.0
+          ∙ ap (in_turn node_on mid k) (steps_from steps k c.loop-at-test.true)
+          ∙ step_accepted mid step left k _ node.answer
+          ∙ ap (λ (t : State). in_turn node_on t (suc k) left) (sym node.after)
+          ∙ ap (λ (n : ℕ). in_turn node_on c.node.new.self n (map record_of (drop n steps))) (sym (add-one k)),
+      walk_alone_on s mid _ c.loop-at.invariant.1 (step_walk_alone mid _ step node.after),
     )
 
 pub returns : goal.returns
 returns c =
-    let rest = c.loop-rest.rest.now in
-    let done = records_none rest (let q = c.in_default in search rules) in (
-      c.loop-rest.invariant.0 ∙ ap (in_turn node_on (view c.loop-rest.self) c.loop-rest.at) done ∙ none_in_turn (view c.loop-rest.self) c.loop-rest.at,
-      omega (arith, c.loop-rest.invariant.1, ap length done),
-      c.loop-rest.invariant.2,
-    )
+    let steps = c.args.steps.now in
+    let k = c.loop-at.at in
+    let done = ap (map record_of) (drop_all k steps (let q = c.loop-at-test.false in search rules)) in
+    (c.loop-at.invariant.0 ∙ ap (in_turn node_on c.loop-at.self k) done ∙ none_in_turn c.loop-at.self k, c.loop-at.invariant.1)
