@@ -6,4 +6,6 @@ mod files;
 #[cfg(test)]
 mod machines;
 #[cfg(test)]
+mod services;
+#[cfg(test)]
 mod walks;

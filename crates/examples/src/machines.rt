@@ -1,8 +1,9 @@
 // Machines by example. A body is written by rows of up to two offsets.
+use forms::Refusal;
+use machine::error::BodyError;
 use machine::interface::Machine;
 use machine::mask::Masked;
 use machine::product::{Product, pair_count};
-use machine::rejection::SheetError;
 use machine::sheet::Sheet;
 use machine::timer::Timer;
 use std::alloc::{AllocError, Global};
@@ -10,15 +11,10 @@ use std::test::Fail;
 
 // A row with atoms below 8, a count of offsets, and its first offsets.
 fn row(atoms: u8, degree: u8, first: i16, second: i16) -> [u8; 21] {
+    let [a, b] = first.to_le_bytes();
+    let [c, d] = second.to_le_bytes();
     let mut row = [0; 21];
-    row[0] = atoms;
-    row[4] = degree;
-    let first = first.to_le_bytes();
-    row[5] = first[0];
-    row[6] = first[1];
-    let second = second.to_le_bytes();
-    row[7] = second[0];
-    row[8] = second[1];
+    row[..9].copy_from_slice(&[atoms, 0, 0, 0, degree, a, b, c, d]);
     row
 }
 
@@ -32,47 +28,21 @@ fn body(heap: Global, n: u16, loops: usize, last: [u8; 21]) -> Result<Vec<u8>, A
     Ok(bytes)
 }
 
-// The number and row of a refusal; 0 where the body is read.
-fn refused(heap: Global, bytes: &[u8]) -> Result<(u8, usize), Fail> {
-    match Sheet::read(heap, bytes) {
-        Ok(_) => Ok((0, 0)),
-        Err(SheetError::Rejected(e)) => Ok((e.refusal.number(), e.row)),
-        Err(SheetError::NoMemory) => Err(Fail::new("no memory")),
-    }
+// Why a body is not read, if it is not.
+fn fault(heap: Global, bytes: &[u8]) -> Option<BodyError> {
+    Sheet::read(heap, bytes).err()
+}
+
+fn at_row(refusal: Refusal, row: usize) -> Option<BodyError> {
+    Some(BodyError::Refused(refusal.at(row)))
 }
 
 // Two rows: row 0 leads to itself and row 1, row 1 to row 0; the atoms are given.
-fn two_rows(heap: Global, first: u8, second: u8) -> Result<Sheet, Fail> {
+fn two_rows(heap: Global, first: u8, second: u8) -> Result<Sheet, BodyError> {
     let mut bytes = Vec::from_slice(heap, &[2, 0])?;
     bytes.extend_from_slice(&row(first, 2, 0, 1))?;
     bytes.extend_from_slice(&row(second, 1, -1, 0))?;
-    match Sheet::read(heap, &bytes) {
-        Ok(sheet) => Ok(sheet),
-        Err(_) => Err(Fail::new("refused")),
-    }
-}
-
-fn timer(states: usize, atom: u32) -> Result<Timer, Fail> {
-    match Timer::new(states, atom) {
-        Ok(timer) => Ok(timer),
-        Err(_) => Err(Fail::new("refused")),
-    }
-}
-
-// The number of a refusal; 0 where there is a timer.
-fn timer_refused(states: usize, atom: u32) -> u8 {
-    match Timer::new(states, atom) {
-        Ok(_) => 0,
-        Err(e) => e.number(),
-    }
-}
-
-// The number of pairs, or of the refusal.
-fn pairs(left: &Timer, right: &Timer) -> usize {
-    match pair_count(left, right) {
-        Ok(pairs) => pairs,
-        Err(e) => e.number() as usize,
-    }
+    Sheet::read(heap, &bytes)
 }
 
 #[test]
@@ -89,62 +59,58 @@ fn a_sheet_is_read(rt: HostRuntime) -> Result<(), Fail> {
 #[test]
 fn the_least_and_the_largest_sheet(rt: HostRuntime) -> Result<(), Fail> {
     let one = body(rt.alloc(), 1, 0, row(0, 1, 0, 0))?;
-    assert!(rt; refused(rt.alloc(), &one)? == (0, 0));
+    assert_eq!(rt; fault(rt.alloc(), &one), None);
     let most = body(rt.alloc(), 1024, 1023, row(0, 1, -1023, 0))?;
-    match Sheet::read(rt.alloc(), &most) {
-        Ok(sheet) => {
-            assert!(rt; sheet.count() == 1024 && sheet.leads(1023, 0) && !sheet.leads(1023, 1));
-            Ok(())
-        },
-        Err(_) => Err(Fail::new("refused")),
-    }
+    let sheet = Sheet::read(rt.alloc(), &most)?;
+    assert!(rt; sheet.count() == 1024 && sheet.leads(1023, 0) && !sheet.leads(1023, 1));
+    Ok(())
 }
 
 #[test]
 fn row_counts_are_1_to_1024(rt: HostRuntime) -> Result<(), Fail> {
     let none = body(rt.alloc(), 0, 0, row(0, 1, 0, 0))?;
-    assert!(rt; refused(rt.alloc(), &none)? == (10, 0));
+    assert_eq!(rt; fault(rt.alloc(), &none), at_row(Refusal::RowCount, 0));
     let many = body(rt.alloc(), 1025, 1024, row(0, 1, 0, 0))?;
-    assert!(rt; refused(rt.alloc(), &many)? == (10, 0));
+    assert_eq!(rt; fault(rt.alloc(), &many), at_row(Refusal::RowCount, 0));
     Ok(())
 }
 
 #[test]
 fn a_body_has_its_length(rt: HostRuntime) -> Result<(), Fail> {
-    assert!(rt; refused(rt.alloc(), &[1])? == (17, 0));
+    assert_eq!(rt; fault(rt.alloc(), &[1]), at_row(Refusal::BodyLength, 0));
     let long = body(rt.alloc(), 1, 1, row(0, 1, 0, 0))?;
-    assert!(rt; refused(rt.alloc(), &long)? == (17, 0));
+    assert_eq!(rt; fault(rt.alloc(), &long), at_row(Refusal::BodyLength, 0));
     Ok(())
 }
 
 #[test]
 fn a_row_has_1_to_8_offsets(rt: HostRuntime) -> Result<(), Fail> {
     let none = body(rt.alloc(), 3, 2, row(0, 0, 0, 0))?;
-    assert!(rt; refused(rt.alloc(), &none)? == (11, 2));
+    assert_eq!(rt; fault(rt.alloc(), &none), at_row(Refusal::RowDegree, 2));
     let nine = body(rt.alloc(), 2, 1, row(0, 9, 0, 0))?;
-    assert!(rt; refused(rt.alloc(), &nine)? == (11, 1));
+    assert_eq!(rt; fault(rt.alloc(), &nine), at_row(Refusal::RowDegree, 1));
     let eight = body(rt.alloc(), 2, 1, row(0, 8, 0, -1))?;
-    assert!(rt; refused(rt.alloc(), &eight)? == (0, 0));
+    assert_eq!(rt; fault(rt.alloc(), &eight), None);
     Ok(())
 }
 
 #[test]
 fn offsets_stay_inside(rt: HostRuntime) -> Result<(), Fail> {
     let below = body(rt.alloc(), 1, 0, row(0, 1, -1, 0))?;
-    assert!(rt; refused(rt.alloc(), &below)? == (12, 0));
+    assert_eq!(rt; fault(rt.alloc(), &below), at_row(Refusal::RowOffset, 0));
     let above = body(rt.alloc(), 3, 2, row(0, 2, -2, 1))?;
-    assert!(rt; refused(rt.alloc(), &above)? == (12, 2));
+    assert_eq!(rt; fault(rt.alloc(), &above), at_row(Refusal::RowOffset, 2));
     let unread = body(rt.alloc(), 3, 2, row(0, 1, -2, 1))?;
-    assert!(rt; refused(rt.alloc(), &unread)? == (0, 0));
+    assert_eq!(rt; fault(rt.alloc(), &unread), None);
     Ok(())
 }
 
 #[test]
 fn timers_have_their_shape(rt: HostRuntime) -> Result<(), Fail> {
-    assert!(rt;
-        timer_refused(0, 0) == 19 && timer_refused(1025, 0) == 19 && timer_refused(1, 32) == 19
-    );
-    let timer = timer(1024, 31)?;
+    for (states, atom) in [(0, 0), (1025, 0), (1, 32)] {
+        assert_eq!(rt; Timer::new(states, atom).err(), Some(Refusal::TimerShape));
+    }
+    let timer = Timer::new(1024, 31)?;
     assert!(rt; timer.count() == 1024 && timer.atoms(1023) == 1 << 31 && timer.atoms(1022) == 0);
     assert!(rt;
         timer.leads(0, 1)
@@ -162,7 +128,7 @@ fn a_pile_answers(rt: HostRuntime) -> Result<(), Fail> {
     let sheets = Product { left, right };
     let pile: Masked<Product<Timer, Product<Sheet, Sheet>>> = Masked {
         below: Product {
-            left: timer(3, 4)?,
+            left: Timer::new(3, 4)?,
             right: sheets,
         },
         mask: 0b10110,
@@ -176,9 +142,10 @@ fn a_pile_answers(rt: HostRuntime) -> Result<(), Fail> {
 
 #[test]
 fn a_product_over_the_limit_means_its_left_side(rt: HostRuntime) -> Result<(), Fail> {
-    let left = timer(33, 0)?;
-    let right = timer(32, 1)?;
-    assert!(rt; pairs(&right, &right) == 1024 && pairs(&left, &right) == 18);
+    let left = Timer::new(33, 0)?;
+    let right = Timer::new(32, 1)?;
+    assert_eq!(rt; pair_count(&right, &right), Ok(1024));
+    assert_eq!(rt; pair_count(&left, &right), Err(Refusal::ProductSize));
     let product = Product { left, right };
     assert!(rt;
         product.count() == 33

@@ -1,34 +1,31 @@
 // Walks through whole trees, and the longest path.
-use forms::Table;
+use forms::{Refusal, Table};
+use protocol::Standing;
+use register::Register;
 use std::test::Fail;
-use walk::walk::Walk;
+use walk::{Phase, Walk};
 
 // Truth, falsity, atom 0 and its absence, A(0 U 2), E(1 R 3), AX 4, EX 5.
-fn filled() -> Table {
+const FORMS: [(u8, u8, u8); 8] = [
+    (0, 0, 0),
+    (1, 0, 0),
+    (2, 0, 0),
+    (3, 0, 0),
+    (9, 0, 2),
+    (10, 1, 3),
+    (7, 4, 0),
+    (6, 5, 0),
+];
+
+fn filled() -> Result<Table, Refusal> {
     let mut table = Table::new();
-    for form in [
-        (0, 0, 0),
-        (1, 0, 0),
-        (2, 0, 0),
-        (3, 0, 0),
-        (9, 0, 2),
-        (10, 1, 3),
-        (7, 4, 0),
-        (6, 5, 0),
-    ] {
-        let _ = table.add(form.0, form.1, form.2);
+    for (kind, a, b) in FORMS {
+        table.add(kind, a, b)?;
     }
-    table
+    Ok(table)
 }
 
-// The reply to a step at a walk: how many goals wait, or 100 and the number of the refusal.
-fn reply(walk: &mut Walk, table: &Table, step: (u8, u8, u8)) -> usize {
-    match walk.node(table, step.0, step.1, step.2) {
-        Ok(waiting) => waiting,
-        Err(why) => 100 + why.number() as usize,
-    }
-}
-
+// Steps that refute form 4 with form 5, each with how many goals wait after it.
 const REFUTATION: [((u8, u8, u8), usize); 9] = [
     ((6, 4, 0), 1),
     ((5, 5, 7), 2),
@@ -43,36 +40,51 @@ const REFUTATION: [((u8, u8, u8), usize); 9] = [
 
 #[test]
 fn a_repeat_in_focus_closes(rt: HostRuntime) -> Result<(), Fail> {
-    let table = filled();
-    let mut walk = Walk::new(rt.alloc())?;
-    assert_eq!(rt; walk.open(48).ok(), Some(1));
-    for (step, waiting) in REFUTATION {
-        assert_eq!(rt; reply(&mut walk, &table, step), waiting);
+    let table = filled()?;
+    let mut walk = Walk::new();
+    walk.start(48);
+    for ((number, a, b), waiting) in REFUTATION {
+        assert_eq!(rt; walk.node(&table, number, a, b), Ok(waiting));
     }
-    assert_eq!(rt; walk.finished().ok(), Some(48));
+    assert_eq!(rt; walk.phase(), Phase::Closed { root: 48 });
+    Ok(())
+}
+
+#[test]
+fn a_refutation_is_entered(rt: HostRuntime) -> Result<(), Fail> {
+    let mut register = Register::new();
+    for (kind, a, b) in FORMS {
+        register.form(kind, a, b)?;
+    }
+    assert_eq!(rt; register.open(48), Ok(1));
+    for ((number, a, b), waiting) in REFUTATION {
+        assert_eq!(rt; register.node(number, a, b), Ok(waiting));
+    }
+    assert_eq!(rt; register.enter(), Ok(0));
+    assert_eq!(rt; register.stands(48), Some(Standing::Impossible));
     Ok(())
 }
 
 #[test]
 fn a_repeat_without_focus_is_refused(rt: HostRuntime) -> Result<(), Fail> {
-    let table = filled();
-    let mut walk = Walk::new(rt.alloc())?;
-    let _ = walk.open(48);
-    for (step, _) in REFUTATION.iter().skip(1).take(7) {
-        assert!(rt; reply(&mut walk, &table, *step) < 100);
+    let table = filled()?;
+    let mut walk = Walk::new();
+    walk.start(48);
+    for ((number, a, b), _) in REFUTATION.into_iter().skip(1).take(7) {
+        assert!(rt; walk.node(&table, number, a, b).is_ok());
     }
-    assert_eq!(rt; reply(&mut walk, &table, (8, 3, 0)), 109);
+    assert_eq!(rt; walk.node(&table, 8, 3, 0), Err(Refusal::DoesNotClose));
     Ok(())
 }
 
 #[test]
 fn a_path_has_at_most_256_goals(rt: HostRuntime) -> Result<(), Fail> {
-    let table = filled();
-    let mut walk = Walk::new(rt.alloc())?;
-    let _ = walk.open(16);
+    let table = filled()?;
+    let mut walk = Walk::new();
+    walk.start(16);
     for _ in 1..256 {
-        assert_eq!(rt; reply(&mut walk, &table, (6, 4, 0)), 1);
+        assert_eq!(rt; walk.node(&table, 6, 4, 0), Ok(1));
     }
-    assert_eq!(rt; reply(&mut walk, &table, (6, 4, 0)), 127);
+    assert_eq!(rt; walk.node(&table, 6, 4, 0), Err(Refusal::PathTooLong));
     Ok(())
 }

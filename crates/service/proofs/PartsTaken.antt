@@ -11,11 +11,11 @@ use Rattle.machine.specs.Faults.{sheet_fault}
 use Rattle.modefile.specs.Contents.{count, kind_at, place_at, is_shaped, unknown_from, filling_fault, fault}
 use Rattle.modefile.specs.Parts.{Told, has_part, part_at, following_part}
 use Rattle.service.specs.Kept.{Kept}
-use Rattle.service.specs.declared.stop.Stop.{Stop}
-use Rattle.service.specs.declared.stop.Stop.TheVariants.{Refused, NoMemory}
+use Rattle.machine.specs.declared.error.BodyError.{BodyError}
+use Rattle.machine.specs.declared.error.BodyError.TheVariants.{Refused, OutOfMemory}
 use Rattle.service.specs.Files.{body_at, take_part, reply_onward, take_from, HasSheet}
 use Rattle.service.specs.Meaning.{Performed}
-use Rattle.service.specs.Taking.{Took, IsSheet, stop_reply}
+use Rattle.service.specs.Taking.{Took, IsSheetPart, part_reply}
 
 pub record There (file : List ℕ) (i : ℕ) (t : Told) : Type 0 where
   pub below : i < count file
@@ -25,10 +25,10 @@ pub record There (file : List ℕ) (i : ℕ) (t : Told) : Type 0 where
 
 -- a part that is handed out is there
 pub part_there : (file : List ℕ) (i : ℕ) (t : Told) → ◌≡◌ {A = Result Told Refusal} (Ok t) (part_at file i) → There file i t
-part_there file i t e = go (has_part file i) refl e
+part_there file i t e = there_if_has_part (has_part file i) refl e
   where
-    go : (b : Bool) → has_part file i ≡ b → ◌≡◌ {A = Result Told Refusal} (Ok t) (cond b (Ok (kind_at file i, body_at file i, place_at file i)) (Err NoPartLeft)) → There file i t
-    go true h k =
+    there_if_has_part : (b : Bool) → has_part file i ≡ b → ◌≡◌ {A = Result Told Refusal} (Ok t) (cond b (Ok (kind_at file i, body_at file i, place_at file i)) (Err NoPartLeft)) → There file i t
+    there_if_has_part true h k =
         let same : t ≡ (kind_at file i, body_at file i, place_at file i) = cc in
         record {
           below = ltb-true i (count file) (and_parts (not (is_some (fault file))) (ltb i (count file)) h).1;
@@ -36,15 +36,15 @@ part_there file i t e = go (has_part file i) refl e
           body = ap (λ (x : Told). x.1) same;
           next = ap (λ (b : Bool). cond b (i + 1) i) h;
         }
-    go false h k = let z : ◌≡◌ {A = ℕ} 0 1 = cc in absurd (omega arith)
+    there_if_has_part false h k = let z : ◌≡◌ {A = ℕ} 0 1 = cc in absurd (omega arith)
 
 -- where none is handed out of a file in order, none is left
 pub no_part : (file : List ℕ) (i : ℕ) (why : Refusal) → fault file ≡ None → ◌≡◌ {A = Result Told Refusal} (Err why) (part_at file i) → count file ≤ i
-no_part file i why sound e = go (ltb i (count file)) refl (e ∙ ap (λ (b : Bool). cond (not b && ltb i (count file)) (Ok (kind_at file i, body_at file i, place_at file i)) (Err NoPartLeft)) (ap is_some sound))
+no_part file i why sound e = done_if_none_below (ltb i (count file)) refl (e ∙ ap (λ (b : Bool). cond (not b && ltb i (count file)) (Ok (kind_at file i, body_at file i, place_at file i)) (Err NoPartLeft)) (ap is_some sound))
   where
-    go : (b : Bool) → ltb i (count file) ≡ b → ◌≡◌ {A = Result Told Refusal} (Err why) (cond b (Ok (kind_at file i, body_at file i, place_at file i)) (Err NoPartLeft)) → count file ≤ i
-    go true h k = let z : ◌≡◌ {A = ℕ} 0 1 = cc in absurd (omega arith)
-    go false h k = ltb-false i (count file) h
+    done_if_none_below : (b : Bool) → ltb i (count file) ≡ b → ◌≡◌ {A = Result Told Refusal} (Err why) (cond b (Ok (kind_at file i, body_at file i, place_at file i)) (Err NoPartLeft)) → count file ≤ i
+    done_if_none_below true h k = let z : ◌≡◌ {A = ℕ} 0 1 = cc in absurd (omega arith)
+    done_if_none_below false h k = ltb-false i (count file) h
 
 module _ (k : Kept) (file : List ℕ) (i : ℕ) where
   pub take_next : i < count file → take_from k file i (count file - i) ≡ reply_onward k i (take_part k (kind_at file i) (body_at file i)) (λ later. take_from later file (suc i) (count file - (i + 1)))
@@ -57,15 +57,15 @@ module _ (k : Kept) (file : List ℕ) (i : ℕ) where
 
 -- a file in order has at most 16 parts
 pub count_few : (file : List ℕ) → fault file ≡ None → count file ≤ 16
-count_few file sound = go (is_shaped file) refl sound
+count_few file sound = few_if_shaped (is_shaped file) refl sound
   where
-    go : (b : Bool) → is_shaped file ≡ b → cond b (filling_fault file (unknown_from file 0 (count file))) (Some (rejected_at FileShape 0)) ≡ None → count file ≤ 16
-    go true h k =
+    few_if_shaped : (b : Bool) → is_shaped file ≡ b → cond b (filling_fault file (unknown_from file 0 (count file))) (Some (rejected_at FileShape 0)) ≡ None → count file ≤ 16
+    few_if_shaped true h k =
         let p = and_parts (ltb 0 (length file)) _ h in
         let q = and_parts (leb (length file) 65536) _ p.1 in
         let r = and_parts (ltb 0 (count file)) _ q.1 in
         leb-true (count file) 16 (and_parts (leb (count file) 16) _ r.1).0
-    go false h k = let z : ◌≡◌ {A = ℕ} 0 1 = cc in absurd (omega arith)
+    few_if_shaped false h k = let z : ◌≡◌ {A = ℕ} 0 1 = cc in absurd (omega arith)
 
 -- the loop's part, where its reader is known to be at part i of the file
 module _ (bytes file : List ℕ) (next i : ℕ) (same : bytes ≡ file) (at : next ≡ i) where
@@ -92,11 +92,11 @@ module _ (k : Kept) (file : List ℕ) (i : ℕ) (t : Told) (there : There file i
       ∙ ap (λ (r : Result Kept Rejected). reply_onward k i r (λ x. take_from x file (suc i) (count file - (i + 1)))) (sym taking ∙ e)
       ∙ ap (λ (j : ℕ). take_from later file j (count file - (i + 1))) (sym (add-one i))
 
-  pub part_stopped : (stop : Stop) (later : Kept) → Took (take_part k t.0 t.1) (IsSheet t.0 t.1) (Err stop) k later
-      → Performed (take_from k file i (count file - i)) (HasSheet file) (stop_reply stop i) later
+  pub part_stopped : (stop : BodyError) (later : Kept) → Took (take_part k t.0 t.1) (IsSheetPart t.0 t.1) (Err stop) k later
+      → Performed (take_from k file i (count file - i)) (HasSheet file) (part_reply stop i) later
   part_stopped (Refused e) later h =
       let due =
       take_next k file i there.below
       ∙ ap (λ (r : Result Kept Rejected). reply_onward k i r (λ x. take_from x file (suc i) (count file - (i + 1)))) (sym taking ∙ h.0) in
       (ap (λ (p : Reply × Kept). p.0) (sym due), h.1 ∙ ap (λ (p : Reply × Kept). p.1) (sym due))
-  part_stopped NoMemory later h = (i, (sym there.kind ∙ h.0, ap sheet_fault (sym there.body) ∙ h.1))
+  part_stopped OutOfMemory later h = (i, (sym there.kind ∙ h.0, ap sheet_fault (sym there.body) ∙ h.1))

@@ -1,9 +1,8 @@
 -- Reading a file: its parts are taken in order, up to a refusal; earlier parts stay.
-use Rattle.std.specs.Prelude.{◌≡◌, ℕ, zero, suc, cond, List, take, drop, Some, None, Ok, Err, Option, Result, ◌==◌}
+use Rattle.std.specs.Prelude.{◌≡◌, ℕ, zero, suc, if◌then◌else◌, List, take, drop, Some, None, Ok, Err, Option, Result, ◌==◌}
 use Rattle.forms.specs.declared.refusal.Rejected.{Rejected}
 use Rattle.lines.specs.declared.reply.Reply.{Reply}
 use Rattle.lines.specs.declared.reply.Reply.TheVariants.{Number, RefusedAt}
-use Rattle.machine.specs.declared.rejection.Rejection.{Rejection}
 use Rattle.machine.specs.Faults.{sheet_fault}
 use Rattle.machine.specs.Mask.{masked_model}
 use Rattle.machine.specs.Sheet.{sheet}
@@ -17,21 +16,21 @@ abbrev pub all_atoms : ℕ
 all_atoms = 4294967295
 
 -- a forms or tree body is loaded into the register
-abbrev pub load_outcome : Kept → Outcome → Result Kept Rejected
-load_outcome k (taken numbers s) = Ok (with_register k s)
-load_outcome k (declined why at) = Err (record { refusal = why; at = at })
+abbrev pub load_result : Kept → Outcome → Result Kept Rejected
+load_result k (taken numbers s) = Ok (with_register k s)
+load_result k (declined why at) = Err (record { refusal = why; at = at })
 
 -- a modes body whose rows are in order becomes the sheet
-abbrev pub sheet_outcome : Kept → List ℕ → Option Rejection → Result Kept Rejected
-sheet_outcome k body None = Ok (with_sheet k (Some (masked_model (sheet body) all_atoms)))
-sheet_outcome k body (Some e) = Err (record { refusal = e.refusal; at = e.row })
+abbrev pub sheet_result : Kept → List ℕ → Option Rejected → Result Kept Rejected
+sheet_result k body None = Ok (with_sheet k (Some (masked_model (sheet body) all_atoms)))
+sheet_result k body (Some why) = Err why
 
 -- a part by its kind: 1 forms, 2 modes, 3 tree
 abbrev pub take_part : Kept → (kind : ℕ) (body : List ℕ) → Result Kept Rejected
 take_part k kind body =
-    cond (kind == 1) (load_outcome k (outcome k.register (load (forms_body body))))
-    (cond (kind == 2) (sheet_outcome k body (sheet_fault body))
-    (load_outcome k (outcome k.register (load (tree_body body)))))
+    if kind == 1 then load_result k (outcome k.register (load (forms_body body)))
+    else if kind == 2 then sheet_result k body (sheet_fault body)
+    else load_result k (outcome k.register (load (tree_body body)))
 
 abbrev pub body_at : List ℕ → ℕ → List ℕ
 body_at file i = take (length_at file i) (drop (place_at file i) file)

@@ -8,7 +8,7 @@ use Rattle.lines.specs.declared.command.Command.{Command}
 use Rattle.lines.specs.declared.command.Command.TheVariants.{Form, Open, Node, Enter, Abandon, Strike, Clear, Stands, Read, Show}
 use Rattle.lines.specs.declared.reply.Reply.{Reply}
 use Rattle.lines.specs.declared.reply.Reply.TheVariants.{Number, Numbers, Refused}
-use Rattle.lines.specs.Grammar.{Asks, IsUnderstood}
+use Rattle.lines.specs.Grammar.{Asks, IsCommandResult}
 use Rattle.lines.specs.Replies.{reply_line}
 use Rattle.protocol.specs.declared.line.Standing.{Standing}
 use Rattle.protocol.specs.declared.line.Standing.TheVariants.{Impossible, Possible}
@@ -55,15 +55,7 @@ reply_to k file (Show set state) = on_sheet k set state k.sheet
 -- memory for a sheet is wanted only where the command is to read a file that has one in order
 abbrev pub WantsSheet : (file : List ℕ) → Command → Type 0
 WantsSheet file (Read name) = HasSheet file
-WantsSheet file (Form kind a b) = ⊥
-WantsSheet file (Open set) = ⊥
-WantsSheet file (Node number a b) = ⊥
-WantsSheet file Enter = ⊥
-WantsSheet file Abandon = ⊥
-WantsSheet file (Strike line) = ⊥
-WantsSheet file Clear = ⊥
-WantsSheet file (Stands set) = ⊥
-WantsSheet file (Show set state) = ⊥
+WantsSheet file _ = ⊥
 
 -- the reply is the due one, and so is what is kept then; or memory was wanted
 abbrev pub Performed : Reply × Kept → (Wants : Type 0) → Result Reply AllocError → Kept → Type 0
@@ -75,10 +67,12 @@ abbrev pub reply_for : Kept → (file : List ℕ) → Result Command Refusal →
 reply_for k file (Ok command) = reply_to k file command
 reply_for k file (Err why) = (Refused why, k)
 
--- a line is answered with these bytes: those of the reply to its command, or of refusal 20 where it has none;
+-- what was read of a line is answered with these bytes: those of the reply to its command, or of refusal 20 where it has none;
 -- where memory was wanted, it was for a sheet, or all was done and only the reply's text found none
+abbrev pub Replied : (read : Result Command Refusal) (file : List ℕ) (before : Kept) → Result Unit AllocError → (bytes : List ℕ) (later : Kept) → Type 0
+Replied read file before (Ok x) bytes later = (bytes ≡ reply_line (reply_for before file read).0) × (later ≡ (reply_for before file read).1)
+Replied read file before (Err e) bytes later = HasSheet file ⊎ (later ≡ (reply_for before file read).1)
+
+-- the same of a line
 abbrev pub Answered : (line file : List ℕ) (before : Kept) → Result Unit AllocError → (bytes : List ℕ) (later : Kept) → Type 0
-Answered line file before (Ok x) bytes later =
-    (read : Result Command Refusal) × IsUnderstood (Asks line) read × (bytes ≡ reply_line (reply_for before file read).0) × (later ≡ (reply_for before file read).1)
-Answered line file before (Err e) bytes later =
-    HasSheet file ⊎ ((read : Result Command Refusal) × IsUnderstood (Asks line) read × (later ≡ (reply_for before file read).1))
+Answered line file before result bytes later = (read : Result Command Refusal) × IsCommandResult (Asks line) read × Replied read file before result bytes later

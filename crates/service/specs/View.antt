@@ -6,7 +6,6 @@ use Rattle.machine.specs.declared.mask.Masked.{Masked}
 use Rattle.machine.specs.declared.sheet.Sheet.{Sheet}
 use Rattle.machine.specs.Mask.{masked_model}
 use Rattle.machine.specs.Rows.{rows_model}
-use Rattle.register.specs.View.{view as register_of}
 use Rattle.service.specs.declared.service.Service.{Service}
 use Rattle.service.specs.Kept.{Kept}
 
@@ -15,4 +14,4 @@ abbrev pub model_of : Masked Sheet → Model
 model_of machine = masked_model (rows_model (vec_items machine.below.rows)) machine.mask
 
 abbrev pub kept_of : Service → Kept
-kept_of service = record { register = register_of service.register; sheet = option_map model_of service.sheet }
+kept_of service = record { register = service.register; sheet = option_map model_of service.sheet }

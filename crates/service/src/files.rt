@@ -1,20 +1,18 @@
-// Reading a file: its parts are taken in order, up to a refusal.
-ghost use Rattle.std.specs.Prelude.{◌≡◌, ◌-◌, None};
+// Reading a file: its parts are taken in order, up to a refusal. Places are cast to the 64 bits of a reply, since there is no `From`.
+ghost use Rattle.std.specs.Prelude.{◌≡◌, None};
 ghost use Rattle.machine.specs.Faults.{sheet_fault};
-ghost use Rattle.modefile.specs.Contents.{count, fault};
+ghost use Rattle.modefile.specs.Contents.{count};
 ghost use Rattle.modefile.specs.Parts.{told_of as part_told};
 ghost use Rattle.protocol.specs.Calls.{load as load_call, outcome};
 ghost use Rattle.register.specs.Loads.{body_of};
-ghost use Rattle.service.specs.Files.{load_outcome, sheet_outcome, take_part, take_from, reading, HasSheet};
+ghost use Rattle.service.specs.Files.{load_result, sheet_result, take_part, take_from, reading, HasSheet};
 ghost use Rattle.service.specs.Meaning.{Performed};
-ghost use Rattle.service.specs.Taking.{Took, IsSheet, stop_reply};
+ghost use Rattle.service.specs.Taking.{Took, IsSheetPart, part_reply};
 ghost use Rattle.service.specs.View.{kept_of};
 
 use crate::service::Service;
-use crate::stop::Stop;
-use forms::Rejected;
 use lines::Reply;
-use machine::{Masked, Sheet, SheetError};
+use machine::{BodyError, Masked, Sheet};
 use modefile::{Fresh, Listed, Part};
 use register::Body;
 use std::alloc::AllocError;
@@ -22,7 +20,8 @@ use std::alloc::AllocError;
 impl Service {
     // Takes the parts of a file in order, and forgets the sheet of an earlier one.
     pub(crate) fn read(&mut self, file: &[u8]) -> Result<Reply, AllocError>
-        ensures { Performed (reading (kept_of self.old) file.now) (HasSheet file.now) result (kept_of self.new) }
+        ensures { Performed (reading (kept_of self.old) file.now) (HasSheet file.now) result
+            (kept_of self.new) }
     {
         self.sheet = None;
         match Fresh::begin(file).list() {
@@ -35,24 +34,30 @@ impl Service {
         }
     }
 
-    // Takes the parts that are left, and answers how many the file has.
+    // Takes the parts that are left, and answers how many the file has. They are counted here, since a listed file is no iterator: it
+    // refuses where no part is left.
     fn take_parts(&mut self, mut listed: Listed<'_>) -> Result<Reply, AllocError>
-        requires { (fault listed.bytes.now ≡ None) × (listed.next ≡ 0) }
-        ensures { Performed (take_from (kept_of self.old) listed.entry.bytes.now 0 (count listed.entry.bytes.now)) (HasSheet listed.entry.bytes.now) result (kept_of self.new) }
+        requires { listed.next ≡ 0 }
+        ensures { Performed
+            (take_from (kept_of self.old) listed.entry.bytes.now 0 (count listed.entry.bytes.now))
+            (HasSheet listed.entry.bytes.now) result (kept_of self.new) }
     {
         let mut taken = 0u64;
         while let Ok(part) = listed.next_part() {
-            match self.take_part(part) {
-                Ok(()) => taken += 1,
-                Err(stop) => return stopped(stop, taken),
+            if let Err(why) = self.take_part(part) {
+                return stopped(why, taken);
             }
+            taken += 1;
         }
         Ok(Reply::Number(taken))
     }
 
     // Takes a part, by its kind.
-    fn take_part(&mut self, part: Part<'_>) -> Result<(), Stop>
-        ensures { Took (take_part (kept_of self.old) (part_told part.entry).0 (part_told part.entry).1) (IsSheet (part_told part.entry).0 (part_told part.entry).1) result (kept_of self.old) (kept_of self.new) }
+    fn take_part(&mut self, part: Part<'_>) -> Result<(), BodyError>
+        ensures { Took
+            (take_part (kept_of self.old) (part_told part.entry).0 (part_told part.entry).1)
+            (IsSheetPart (part_told part.entry).0 (part_told part.entry).1)
+            result (kept_of self.old) (kept_of self.new) }
     {
         match part {
             Part::Forms { body, place: _ } => self.load(Body::Forms(body)),
@@ -62,46 +67,40 @@ impl Service {
     }
 
     // Loads a forms or tree body into the register.
-    fn load(&mut self, body: Body<'_>) -> Result<(), Stop>
-        ensures { Took (load_outcome (kept_of self.old) (outcome (kept_of self.old).register (load_call (body_of body.entry)))) ⊥ result (kept_of self.old) (kept_of self.new) }
+    fn load(&mut self, body: Body<'_>) -> Result<(), BodyError>
+        ensures { Took
+            (load_result (kept_of self.old)
+            (outcome (kept_of self.old).register (load_call (body_of body.entry))))
+            ⊥ result (kept_of self.old) (kept_of self.new) }
     {
-        match self.register.load(body) {
-            Ok(_) => Ok(()),
-            Err(rejected) => Err(Stop::Refused(rejected)),
-        }
+        self.register.load(body)?;
+        Ok(())
     }
 
     // Keeps the sheet of a modes body, under a mask that lets every atom show.
-    fn keep_sheet(&mut self, body: &[u8]) -> Result<(), Stop>
-        ensures { Took (sheet_outcome (kept_of self.old) body.now (sheet_fault body.now)) (sheet_fault body.now ≡ None) result (kept_of self.old) (kept_of self.new) }
+    fn keep_sheet(&mut self, body: &[u8]) -> Result<(), BodyError>
+        ensures { Took (sheet_result (kept_of self.old) body.now (sheet_fault body.now))
+            (sheet_fault body.now ≡ None) result (kept_of self.old) (kept_of self.new) }
     {
-        match Sheet::read(self.heap, body) {
-            Ok(below) => {
-                self.sheet = Some(Masked {
-                    below,
-                    mask: 4294967295,
-                });
-                Ok(())
-            }
-            Err(SheetError::Rejected(e)) => Err(Stop::Refused(Rejected {
-                refusal: e.refusal,
-                at: e.row,
-            })),
-            Err(SheetError::NoMemory) => Err(Stop::NoMemory),
-        }
+        let below = Sheet::read(self.heap, body)?;
+        self.sheet = Some(Masked {
+            below,
+            mask: u32::MAX,
+        });
+        Ok(())
     }
 }
 
 // The reply where a part was not taken.
-fn stopped(stop: Stop, part: u64) -> Result<Reply, AllocError>
-    ensures { result ≡ stop_reply stop part }
+fn stopped(why: BodyError, part: u64) -> Result<Reply, AllocError>
+    ensures { result ≡ part_reply why part }
 {
-    match stop {
-        Stop::Refused(rejected) => Ok(Reply::RefusedAt {
+    match why {
+        BodyError::Refused(rejected) => Ok(Reply::RefusedAt {
             refusal: rejected.refusal,
             part,
             record: rejected.at as u64,
         }),
-        Stop::NoMemory => Err(AllocError),
+        BodyError::OutOfMemory => Err(AllocError),
     }
 }

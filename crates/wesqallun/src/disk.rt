@@ -5,23 +5,23 @@ use std::io::Read;
 use std::rt::Files;
 use std::{fs, io};
 
-// Reads a file into `bytes`, as far as these go, and answers how many it has read: none where the file cannot be opened or read.
-pub fn read_file<R: Files>(rt: &R, name: &[u8], bytes: &mut [u8]) -> usize
-    ensures { result ≤ length bytes.new }
+/// Reads the file of a name into `buffer`, as far as it goes, and answers what was read: nothing where the name is not
+/// UTF-8 or the file cannot be opened or read. That these are the file's bytes is only tested.
+pub fn read_file<'a, R: Files>(rt: &R, name: &[u8], buffer: &'a mut [u8]) -> &'a [u8]
+    ensures { length result.now ≤ length buffer.old }
 {
     let Ok(path) = std::str::from_utf8(name) else {
-        return 0;
+        return &[];
     };
     let Ok(mut file) = fs::open(rt, path) else {
-        return 0;
+        return &[];
     };
-    match fill(&mut file, bytes) {
-        Ok(count) => count,
-        Err(_) => 0,
-    }
+    let count = fill(&mut file, buffer).unwrap_or(0);
+    &buffer[..count]
 }
 
-// Reads until `bytes` is full or the input ends.
+// Reads until `bytes` is full or the input ends. A loop of our own, since `read_to_end` makes its vector larger where it likes, and no
+// clause of it bounds what a `take` lets through; these bytes were made once, and stay as many.
 fn fill<F: Read>(input: &mut F, bytes: &mut [u8]) -> io::Result<usize>
     ensures { IfOk result (λ n. n ≤ length bytes.new) }
 {

@@ -16,19 +16,22 @@ fn main(rt: HostRuntime) -> io::Result<()> {
     let heap = rt.alloc();
     let mut input = BufReader::new(heap, rt.stdin())?;
     let mut output = rt.stdout();
-    let mut service = Service::new(heap)?;
+    let mut service = Service::new(heap);
     let mut line = Vec::new(heap);
-    let mut file = vec![in heap; 0u8; FILE_BYTES]?;
+    // a rule of this project: the memory for a file is had once, and fixed
+    let mut buffer = vec![in heap; 0u8; FILE_BYTES]?;
     let mut reply = String::new(heap);
+    // Nothing says that an input ends, and a loop has to: this one does after 2^64 - 1 lines.
     for _ in 0..u64::MAX {
         if !next_line(&mut input, &mut line)? {
             break;
         }
-        let count = match read_command(&line) {
-            Ok(Command::Read(name)) => read_file(&rt, name, &mut file),
-            _ => 0,
+        let asked = read_command(&line);
+        let file = match asked {
+            Ok(Command::Read(name)) => read_file(&rt, name, &mut buffer),
+            _ => &[],
         };
-        service.answer(&line, &file[0..count], &mut reply)?;
+        service.reply(asked, file, &mut reply)?;
         output.write_all(reply.as_bytes())?;
     }
     Ok(())

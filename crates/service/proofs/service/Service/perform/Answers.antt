@@ -10,6 +10,6 @@ pub returns-in-Form : goal.returns-in-Form
 returns-in-Form c =
     let k = kept_of c.args.self.now in
     let file = c.args.file.now in (
-      c.replied.ensures ∙ ap reply_of c.form.ensures.answer ∙ ap (λ (x : Command). (reply_to k file x).0) (sym c.in-Form.is),
+      c.number_reply.ensures ∙ ap reply_of c.form.ensures.answer ∙ ap (λ (x : Command). (reply_to k file x).0) (sym c.in-Form.is),
       ap (λ (s : State). with_register k s) c.form.ensures.after ∙ ap (λ (x : Command). (reply_to k file x).1) (sym c.in-Form.is),
     )
