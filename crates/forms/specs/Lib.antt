@@ -5,3 +5,4 @@ pub mod Meaning
 pub mod Tables
 pub mod Bodies
 pub mod Loading
+pub mod Places

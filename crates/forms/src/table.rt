@@ -4,6 +4,7 @@ ghost use Rattle.forms.specs.Forms.{form, Earlier, IsLawfulTable, IsNotTruth};
 ghost use Rattle.forms.specs.Sets.{is_within};
 ghost use Rattle.forms.specs.Tables.{accepted_form, add_answer, forms_after_add};
 ghost use Rattle.forms.specs.Loading.{load_answer, forms_after_load};
+ghost use Rattle.forms.specs.Places.{with_free_places};
 
 use crate::form::Form;
 use crate::guard::Restore;
@@ -20,10 +21,10 @@ pub(crate) struct Count {
 }
 
 // Only the counted forms are in the table. They keep their array and their count apart, which is a rule of this project:
-// a guard holds the count alone while a body is read. A table is no `Copy`: what lies past the count is no part of what clauses see.
+// a guard holds the count alone while a body is read. The places behind the count hold `Truth`, so that the forms tell the fields.
 /// Up to 64 forms, numbered from 0 in the order in which they came. An operand is always the number of an earlier form.
 /// All its memory is in it, so no call of it runs out of memory.
-#[derive(Clone, Drop)]
+#[derive(Clone, Copy)]
 pub struct Table {
     forms: [Form; MOST_FORMS],
     count: Count,
@@ -31,15 +32,28 @@ pub struct Table {
 
 // Clauses see the forms, in the order in which they came.
 impl Model for Table {
-    ghost use Rattle.std.specs.Prelude.{◌≤◌, List, take};
+    ghost use Rattle.std.specs.Prelude.{◌≡◌, ◌≤◌, List, length, take};
+    ghost use Rattle.std.proofs.Common.{sym};
     ghost use Rattle.forms.specs.declared.form.Form.{Form};
     ghost use Rattle.forms.specs.Forms.{IsWellFormed};
+    ghost use Rattle.forms.specs.Places.{with_free_places, taken_places};
 
     ghost Value = { List Form };
 
     ghost view = { λ t. take t.count.len t.forms };
 
-    ghost invariant = { λ t. (t.count.len ≤ 64) × IsWellFormed (take t.count.len t.forms) };
+    ghost invariant = { λ t. (t.count.len ≤ 64) × IsWellFormed (take t.count.len t.forms)
+        × (t.forms ≡ with_free_places (take t.count.len t.forms)) };
+
+    ghost inverse = { λ T. record {
+      forms = with_free_places T;
+      count = record { len = length T };
+    } };
+
+    ghost inverse_ok = { λ t h i. record {
+      forms = sym h.2 i;
+      count = record { len = taken_places t.count.len t.forms h.0 h.2 i };
+    } };
 }
 
 impl Table {
@@ -69,8 +83,7 @@ impl Table {
     {
         self.as_slice()
             .get(usize::from(f))
-            .copied()
-            .unwrap_or(Form::Truth)
+            .map_or(Form::Truth, |form| *form)
     }
 
     /// Whether each form of the set, 64 bits with bit f for form f, is in the table.
@@ -115,6 +128,7 @@ impl Table {
         while let [kind, a, b, tail @ ..] = rest {
             // Not by `?`: through `map_err` and its closure the proof did not close.
             if let Err(refusal) = append(&mut self.forms, guard.count, *kind, *a, *b) {
+                free_places(&mut self.forms, guard.before);
                 return Err(refusal.at(record));
             }
             rest = tail;
@@ -141,12 +155,22 @@ fn append(
     ensures few { count.new.len ≤ 64 }
     ensures before { take count.old.len forms.new ≡ take count.old.len forms.old }
     ensures sized { length forms.new ≡ 64 }
+    ensures free { forms.old ≡ with_free_places (take count.old.len forms.old)
+        → forms.new ≡ with_free_places (take count.new.len forms.new) }
 {
     let at = count.len;
     let form = acceptable(at, kind, a, b)?;
     forms[at] = form;
     count.len = at + 1;
     Ok(at)
+}
+
+// Frees the places of all forms but the first n.
+fn free_places(forms: &mut [Form; MOST_FORMS], n: usize)
+    requires { n ≤ 64 }
+    ensures { forms.new ≡ with_free_places (take n forms.old) }
+{
+    forms[n..].fill(Form::Truth);
 }
 
 // The form of a kind, if a table of n forms takes it.

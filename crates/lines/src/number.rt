@@ -5,7 +5,6 @@ ghost use Rattle.lines.specs.Decimals.{NoDigit};
 ghost use Rattle.lines.specs.Fields.{IsAfterSpaceResult, IsByteResult, IsFirstNumberResult, IsValueResult, IsNumbersResult, IsBytesResult};
 
 use forms::Refusal;
-use std::str;
 
 /// The N numbers of 64 bits that a text is, each in digits after one space, and no more.
 /// Refused with `BadLine` (20) where it is no such text.
@@ -69,6 +68,14 @@ fn value(digits: &[u8]) -> Result<u64, Refusal>
     requires { all_ascii_digits digits.now ≡ true }
     ensures { IsValueResult digits.now result }
 {
-    let text = str::from_utf8(digits).unwrap();
-    text.parse().map_err(|_| Refusal::BadLine)
+    if digits.is_empty() {
+        return Err(Refusal::BadLine);
+    }
+    digits
+        .iter()
+        .try_fold(0u64, |n, b| {
+            let digit = u64::from(*b - b'0');
+            n.checked_mul(10)?.checked_add(digit)
+        })
+        .ok_or(Refusal::BadLine)
 }

@@ -95,7 +95,9 @@ impl GoalForms<'_> {
         }
     }
 
-    // Step 5, with the focus of the first child and of the second.
+    // Step 5, with the focus of the first child and of the second. Inlined, as are the other rules: they have one caller each, this
+    // has two.
+    #[inline(always)]
     fn unroll(&self, a: u8, b: u8, focus: (Focus, Focus)) -> Result<Children, Refusal>
         ensures { result ≡ answer_on self.now a
             (λ x. on_unroll self.now.set a b focus.0 focus.1 x (form_at self.now.table.now b)) }

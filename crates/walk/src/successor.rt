@@ -22,14 +22,15 @@ impl GoalForms<'_> {
     }
 
     // To a successor that the form a asks for, or to any, with the focus there.
+    #[inline(always)]
     pub(crate) fn advance(&self, a: Option<u8>, focus: Focus) -> Result<Children, Refusal>
         ensures { result ≡ answer (on_advance self.now.table.now self.now.set a focus) }
     {
-        let operands = self.every_operands();
+        // The operands are gathered once the form is found to fit: that goes over the whole table.
         let set = match a {
-            None => operands,
+            None => self.every_operands(),
             Some(a) => match self.named(a)? {
-                Form::Next(Quantifier::Exists, i) => with(operands, i),
+                Form::Next(Quantifier::Exists, i) => with(self.every_operands(), i),
                 _ => return Err(Refusal::DoesNotFit),
             },
         };

@@ -2,6 +2,8 @@ use Rattle.std.proofs.Common.{◌≡◌, ◌≤◌, length, take, Ok, Err, sym, 
 use Rattle.std.proofs.lemmas.List.{take_rest, length-drop, length-take-le}
 use Rattle.forms.specs.Loading.{body_result, counted_forms, kept_forms}
 use Rattle.forms.specs.Refusals.{rejected_at}
+use Rattle.forms.specs.Places.{with_free_places}
+use Rattle.forms.proofs.Places.{freed_front}
 use Rattle.forms.proofs.Records.{turn, turned_down, no_more, forms_after_body_whole, front_kept, load_formed}
 use Rattle.forms.proofs.table.Table.load.Goals as goal
 
@@ -16,19 +18,26 @@ loop-rest-preserved c =
       grown = omega (arith, e.grown);
       few = e.few;
       sized = e.sized;
+      free = e.free kept_forms.free;
       front = front_kept _ _ _ _ _ kept_forms.grown kept_forms.front e.before;
       whole = omega (arith, ap length left, length-drop 3 rest);
       same_end = turn _ c.loop-rest.record rest three e.number e.after ∙ kept_forms.same_end;
     }
 
 -- at a refusal the forms are as they were
+front : (c : goal.After-drop-guard) → take c.drop-guard.new.self.0.len c.free_places.new.forms ≡ take c.self.inside.count.len c.append.new.forms
+front c =
+    rw c.drop-guard.ensures (freed_front c.append.new.forms c.self.inside.count.len (omega (arith, c.in-Err.ensures.sized, c.loop-rest.invariant.few, c.loop-rest.invariant.grown)) c.free_places.ensures)
+
 pub returns-in-Err-clause-restored : goal.returns-in-Err-clause-restored
 returns-in-Err-clause-restored c =
-    rw c.drop-guard.ensures (front_kept _ _ _ _ _ c.loop-rest.invariant.grown c.loop-rest.invariant.front c.in-Err.ensures.before)
+    front c ∙ front_kept _ _ _ _ _ c.loop-rest.invariant.grown c.loop-rest.invariant.front c.in-Err.ensures.before
 
 pub invariant_of-self : goal.invariant_of-self
 invariant_of-self c =
-    rw (c.drop-guard.ensures, front_kept _ _ _ _ _ c.loop-rest.invariant.grown c.loop-rest.invariant.front c.in-Err.ensures.before, ← c.self.view_is) c.self.invariant
+    let same = returns-in-Err-clause-restored c in
+    let before = c.self.invariant in
+    (omega (arith, c.drop-guard.ensures, before.0), rw (same, ← c.self.view_is) before.1, c.free_places.ensures ∙ ap with_free_places (sym (front c)))
 
 -- the body is refused at the record at which its form is
 refused : (c : goal.After-drop-guard) → body_result c.args.self.now c.args.body.now ≡ Err (rejected_at c.in-Err.refusal c.loop-rest.record)
@@ -59,4 +68,4 @@ returns-clause-restored c = rw c.commit.ensures.kept (taken-len c)
 
 pub invariant_of-self-2 : goal.invariant_of-self-2
 invariant_of-self-2 c =
-    rw c.commit.ensures.kept (c.loop-rest.invariant.few, load_formed c.args.self.now c.args.body.now (sym (ap (kept_forms c.args.self.now) (taken c))) (rw (← c.self.view_is) c.self.invariant.1))
+    rw c.commit.ensures.kept (c.loop-rest.invariant.few, load_formed c.args.self.now c.args.body.now (sym (ap (kept_forms c.args.self.now) (taken c))) (rw (← c.self.view_is) c.self.invariant.1), c.loop-rest.invariant.free)
