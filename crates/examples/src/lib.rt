@@ -6,6 +6,8 @@ mod files;
 #[cfg(test)]
 mod machines;
 #[cfg(test)]
+mod searches;
+#[cfg(test)]
 mod services;
 #[cfg(test)]
 mod walks;

@@ -93,8 +93,8 @@ fn reaches(s: usize, offset: i16, t: usize) -> bool
     target(s, offset) == t as isize
 }
 
-// Where an offset leads from row s, perhaps below row 0. A sum of signed numbers, which sheets ask for most: `checked_add_signed` takes
-// twice the time.
+// Where an offset leads from row s, perhaps below row 0. A sum of signed numbers: reading a sheet of many rows and asking it come
+// down to this, and took twice the time and more by `checked_add_signed`.
 fn target(s: usize, offset: i16) -> isize
     requires { s < 2 ^ 62 }
     ensures { result ≡ pos s +ℤ offset }

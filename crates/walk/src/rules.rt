@@ -95,8 +95,8 @@ impl GoalForms<'_> {
         }
     }
 
-    // Step 5, with the focus of the first child and of the second. Inlined, as are the other rules: they have one caller each, this
-    // has two.
+    // Step 5, with the focus of the first child and of the second. Inlined by a hint, as `advance` is, since two arms call each; the
+    // other rules have a caller each and need none.
     #[inline(always)]
     fn unroll(&self, a: u8, b: u8, focus: (Focus, Focus)) -> Result<Children, Refusal>
         ensures { result ≡ answer_on self.now a

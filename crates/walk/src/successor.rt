@@ -21,7 +21,7 @@ impl GoalForms<'_> {
         named == Some(x) || matches!(self.table.form(x), Form::Next(Quantifier::Every, _))
     }
 
-    // To a successor that the form a asks for, or to any, with the focus there.
+    // To a successor that the form a asks for, or to any, with the focus there. Inlined by a hint, as `unroll` is.
     #[inline(always)]
     pub(crate) fn advance(&self, a: Option<u8>, focus: Focus) -> Result<Children, Refusal>
         ensures { result ≡ answer (on_advance self.now.table.now self.now.set a focus) }

@@ -4,8 +4,10 @@ use Rattle.fixpoint.proofs.search.make.Given as goal
 
 abbrev pub invariant-loop-i : goal.invariant-loop-i
 invariant-loop-i g l =
-    let next = g.N.IndexSet in
+    let set = g.S.IndexSet in
+    let next = g.S.TwoSets.next in
     record {
-      made : next.members l.next ≡ overlay l.i (g.R.Round.step l.round l.current (g.C.IndexSet.members l.current)) (next.members l.initial.next);
-      rest : next.rest l.next ≡ next.rest l.initial.next;
+      made : next l.sets ≡ overlay l.i (g.R.Round.step l.round l.initial.sets (set.members l.initial.sets)) (next l.initial.sets);
+      current : set.members l.sets ≡ set.members l.initial.sets;
+      rest : set.rest l.sets ≡ set.rest l.initial.sets;
     }

@@ -1,0 +1,19 @@
+-- Rounds for the tests of searches: the goals are the given set 0.
+use Rattle.std.specs.Prelude.{◌≡◌, ℕ, ◌-◌, Bool, true, false, ◌||◌, refl}
+use Rattle.std.proofs.Common.{arith}
+use Rattle.ctl.specs.Rounds.{Subset, IsMonotone}
+
+-- the goals, and each index whose predecessor is in the set; that of 0 is 0
+abbrev pub after : (ℕ → Subset) → Subset → Subset
+after given x i = given 0 i || x (i - 1)
+
+-- the goals, whatever the set
+abbrev pub alone : (ℕ → Subset) → Subset → Subset
+alone given x = given 0
+
+either : (g a b : Bool) → (a ≡ true → b ≡ true) → (g || a) ≡ true → (g || b) ≡ true
+either true a b kept e = refl
+either false a b kept e = kept e
+
+pub IsMonotone-after : (n : ℕ) (given : ℕ → Subset) → IsMonotone n (after given)
+IsMonotone-after n given x y inside i h = either (given 0 i) (x (i - 1)) (y (i - 1)) (inside (i - 1) (omega arith))
