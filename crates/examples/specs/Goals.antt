@@ -11,9 +11,9 @@ after given x i = given 0 i || x (i - 1)
 abbrev pub alone : (ℕ → Subset) → Subset → Subset
 alone given x = given 0
 
-either : (g a b : Bool) → (a ≡ true → b ≡ true) → (g || a) ≡ true → (g || b) ≡ true
-either true a b kept e = refl
-either false a b kept e = kept e
+or_grows : (g a b : Bool) → (a ≡ true → b ≡ true) → (g || a) ≡ true → (g || b) ≡ true
+or_grows true a b kept e = refl
+or_grows false a b kept e = kept e
 
 pub IsMonotone-after : (n : ℕ) (given : ℕ → Subset) → IsMonotone n (after given)
-IsMonotone-after n given x y inside i h = either (given 0 i) (x (i - 1)) (y (i - 1)) (inside (i - 1) (omega arith))
+IsMonotone-after n given x y inside i h = or_grows (given 0 i) (x (i - 1)) (y (i - 1)) (inside (i - 1) (omega arith))
